@@ -1,0 +1,88 @@
+-- How many members a set has below w: a set strictly within another has fewer.
+use mathlib.Core.Path.{_≡_, refl, sym, ap, _∙_}
+use mathlib.Core.Logic.{_≢_, _⊎_, inl, inr}
+use mathlib.Core.Bool.{Bool, true, false, _||_, cond}
+use Prim.Native.Nat.{ℕ, zero, suc, _+_, _≤_, _<_}
+use native.Mathlib.Decide.{ℕ-discrete}
+use native.Mathlib.Omega.{arith}
+use Rattle.sets.specs.Set.{has, only, _union_, Within}
+use Rattle.sets.proofs.Booleans.{clash}
+use Rattle.sets.proofs.Members.{has-empty, has-union, has-only, has-only-other}
+
+unfoldable pub count : ℕ → ℕ → ℕ
+count zero m = 0
+count (suc w) m = cond (has m w) 1 0 + count w m
+
+bit-mono : (a b : Bool) → (a ≡ true → b ≡ true) → cond a 1 0 ≤ cond b 1 0
+bit-mono true true f = omega arith
+bit-mono true false f = clash (f refl) refl
+bit-mono false true f = omega arith
+bit-mono false false f = omega arith
+
+pub count-within : (w a b : ℕ) → Within a b → count w a ≤ count w b
+unfolding count
+count-within zero a b f = omega arith
+count-within (suc w) a b f = let i = count-within w a b f in let j = bit-mono (has a w) (has b w) (f w) in omega arith
+
+pub count-more : (w a b x : ℕ) → Within a b → x < w → has a x ≡ false → has b x ≡ true → count w a < count w b
+unfolding count
+count-more zero a b x f l u v = absurd (omega arith)
+count-more (suc w) a b x f l u v = go (λ (h : x < w). count-more w a b x f h u v) (ℕ-discrete x w)
+  where
+    go : (x < w → count w a < count w b) → Dec (x ≡ w) → count (suc w) a < count (suc w) b
+    go ih (yes e) = rw (← e, u, v) (let i = count-within x a b f in omega arith)
+    go ih (no h) = let i = ih (omega arith) in let j = bit-mono (has a w) (has b w) (f w) in omega arith
+
+-- a member of b below w that a lacks, or there is none
+abbrev pub Lacks : ℕ → ℕ → ℕ → Type 0
+Lacks w a b = ((x : ℕ) × (x < w) × (has a x ≡ false) × (has b x ≡ true)) ⊎ ((x : ℕ) → x < w → has b x ≡ true → has a x ≡ true)
+
+pub lacking : (w a b : ℕ) → Lacks w a b
+lacking zero a b = inr (λ x l h. absurd (omega arith))
+lacking (suc w) a b = go (lacking w a b) (has a w) refl (has b w) refl
+  where
+    more : (has b w ≡ true → has a w ≡ true) → ((x : ℕ) → x < w → has b x ≡ true → has a x ≡ true)
+        → (x : ℕ) → x < suc w → has b x ≡ true → Dec (x ≡ w) → has a x ≡ true
+    more f t x l h (yes i) = ap (has a) i ∙ f (sym (ap (has b) i) ∙ h)
+    more f t x l h (no n) = t x (omega arith) h
+
+    go : Lacks w a b → (u : Bool) → has a w ≡ u → (v : Bool) → has b w ≡ v → Lacks (suc w) a b
+    go (inl t) u e v f = inl (t .0, (let i = t .1 in omega arith), t .2, t .3)
+    go (inr t) false e true f = inl (w, (omega arith), e, f)
+    go (inr t) true e v f = inr (λ x l h. more (λ k. e) t x l h (ℕ-discrete x w))
+    go (inr t) false e false f = inr (λ x l h. more (λ k. clash k f) t x l h (ℕ-discrete x w))
+
+-- at most one for each place
+pub count-width : (w m : ℕ) → count w m ≤ w
+unfolding count
+count-width zero m = omega arith
+count-width (suc w) m = let i = count-width w m in let j = bit-mono (has m w) true (λ e. refl) in omega arith
+
+pub count-empty : (w : ℕ) → count w 0 ≡ 0
+unfolding count
+count-empty zero = refl
+count-empty (suc w) = rw (has-empty w, count-empty w)
+
+pub count-only : (w l : ℕ) → count w (only l) ≤ 1
+unfolding count
+count-only zero l = omega arith
+count-only (suc w) l = go (count-only w l) (ℕ-discrete l w)
+  where
+    below : (w l : ℕ) → w ≤ l → count w (only l) ≡ 0
+    below zero l h = refl
+    below (suc w) l h = rw (has-only-other l w (λ e. omega arith)) (let i = below w l (omega arith) in omega arith)
+
+    go : count w (only l) ≤ 1 → Dec (l ≡ w) → count (suc w) (only l) ≤ 1
+    go i (yes e) = rw (e, has-only w, below w w (omega arith)) (omega arith)
+    go i (no h) = rw (has-only-other l w h) (omega arith)
+
+bit-or : (a b : Bool) → cond (a || b) 1 0 ≤ cond a 1 0 + cond b 1 0
+bit-or true true = omega arith
+bit-or true false = omega arith
+bit-or false true = omega arith
+bit-or false false = omega arith
+
+pub count-union : (w a b : ℕ) → count w (a union b) ≤ count w a + count w b
+unfolding count
+count-union zero a b = omega arith
+count-union (suc w) a b = rw (has-union a b w) (let i = count-union w a b in let j = bit-or (has a w) (has b w) in omega arith)

@@ -1,0 +1,22 @@
+// Sets of the numbers 0 to 63, a bit each.
+ghost use mathlib.Core.Path.{_≡_};
+ghost use Prim.Native.Nat.{_%_, _^_};
+ghost use Rattle.sets.specs.Set.{has, only};
+
+// Whether the number is in the set.
+pub fn contains(set: u64, number: u8) -> bool
+    ensures { λ r. ⌜ r ≡ has set number ⌝ }
+{
+    if number < 64 {
+        set >> number & 1 == 1
+    } else {
+        false
+    }
+}
+
+// The set of the one number; empty where the number is past the width.
+pub fn singleton(number: u8) -> u64
+    ensures { λ r. ⌜ r ≡ only number % 2 ^ 64 ⌝ }
+{
+    if number < 64 { 1 << number } else { 0 }
+}
