@@ -1,0 +1,17 @@
+pub mod Codes
+pub mod Soundness
+pub mod Exits
+pub mod Resuming
+pub mod Reachability
+pub mod Levels
+pub mod Unnamed
+pub mod Trimming
+pub mod Validity
+pub mod Runs
+pub mod Published
+pub mod Counterexamples
+pub mod Order
+pub mod Emitting
+pub mod Listing
+pub mod Needed
+pub mod Indistinguishable

@@ -1,0 +1,32 @@
+// The three counters of Esterel*: labels, exit levels and completion codes. No number is taken from one to another but here.
+ghost use mathlib.Core.Path.{_≡_};
+ghost use Rattle.esterel.specs.Codes.{codeOf, through};
+
+// The label of a pause, 1 to 63.
+pub struct Label(pub u8);
+
+// The level of an exit: how many try statements it leaves.
+pub struct Level(pub u8);
+
+// A completion code: 0 ended, 1 paused, and above that an exit.
+pub struct Code(pub u16);
+
+// The completion code of an exit.
+pub fn code_of(level: Level) -> Code
+    ensures { λ r. ⌜ r .0 ≡ codeOf (level .0) ⌝ }
+{
+    Code(level.0 as u16 + 1)
+}
+
+// The code of a try whose body completes with the code.
+pub fn through_try(code: Code) -> Code
+    ensures { λ r. ⌜ r .0 ≡ through (code .0) ⌝ }
+{
+    let k = code.0;
+    match k {
+        0 => Code(0),
+        1 => Code(1),
+        2 => Code(0),
+        _ => Code(k - 1),
+    }
+}
