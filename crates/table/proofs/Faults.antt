@@ -1,0 +1,161 @@
+-- A node without a fault, by its kind: where `faultOf` is 0 the node is one of eleven, with its operand in range, and the
+-- other way round. And what `faultOf` comes to as its tests are made one after the other.
+use mathlib.Core.Path.{_≡_, refl, sym, _∙_, subst}
+use mathlib.Core.Bool.{Bool, true, false, cond, _&&_, _||_}
+use Prim.Native.Nat.{ℕ, zero, suc, _/_, _%_, _≤_, _<_, zero-le}
+use native.Mathlib.Omega.{arith}
+use lib.Dec.{eqb, ltb, eqb·suc-zero}
+use borrow.Author.Tests.{ltb-false, lt-ltb, le-ltb, eqb-false, eq-eqb, ne-eqb}
+use Rattle.sets.specs.Set.{has}
+use Rattle.sets.proofs.Booleans.{or-neither}
+use Rattle.table.specs.declared.Row.{Row}
+use Rattle.table.specs.Kinds.{kinds, kindOf, rowOf}
+use Rattle.table.specs.Reading.{faultOf}
+use Rattle.table.specs.Writing.{node}
+use Rattle.table.proofs.Nodes.{kind-node, operand-node, node-split}
+
+-- a node that stands in `tries` try statements after pauses with the labels `used`
+pub data Sound (tries used : ℕ) : ℕ → Type 0 where
+  nothing : Sound tries used (node 0 0)
+  pause : (l : ℕ) → 1 ≤ l → l ≤ 63 → has used l ≡ false → Sound tries used (node 1 l)
+  gotopause : (l : ℕ) → 1 ≤ l → l ≤ 63 → Sound tries used (node 2 l)
+  emit : (S : ℕ) → S ≤ 31 → Sound tries used (node 3 S)
+  exit : (d : ℕ) → 1 ≤ d → d ≤ 63 → d ≤ tries → Sound tries used (node 4 d)
+  signal : (S : ℕ) → S ≤ 31 → Sound tries used (node 5 S)
+  present : (S : ℕ) → S ≤ 31 → Sound tries used (node 6 S)
+  sequence : Sound tries used (node 7 0)
+  parallel : Sound tries used (node 8 0)
+  loop : Sound tries used (node 9 0)
+  try : Sound tries used (node 10 0)
+
+-- the number of the first test that fails
+abbrev firstOf : Bool → Bool → Bool → Bool → Bool → ℕ
+firstOf a b c d e = cond a 6 (cond b 7 (cond c 8 (cond d 9 (cond e 10 0))))
+
+none-of : (a b c d e : Bool) → firstOf a b c d e ≡ 0 → (a ≡ false) × (b ≡ false) × (c ≡ false) × (d ≡ false) × (e ≡ false)
+none-of true b c d e h = absurd (omega arith)
+none-of false true c d e h = absurd (omega arith)
+none-of false false true d e h = absurd (omega arith)
+none-of false false false true e h = absurd (omega arith)
+none-of false false false false true h = absurd (omega arith)
+none-of false false false false false h = (refl, refl, refl, refl, refl)
+
+-- the tests of a node with the kind k and the operand o
+abbrev faultAt : ℕ → ℕ → ℕ → ℕ → ℕ → ℕ
+faultAt left tries used k o =
+    firstOf (ltb 10 k) (ltb o (rowOf (kindOf k) .least) || ltb (rowOf (kindOf k) .most) o) (eqb left 0) (eqb k 4 && ltb tries o) (eqb k 1 && has used o)
+
+only-zero : (o : ℕ) → o ≤ 0 → 0 ≡ o
+only-zero o h = omega arith
+
+-- where the tests are passed, by the kind
+by-kind : (tries used k o : ℕ) → k ≤ 10 → rowOf (kindOf k) .least ≤ o → o ≤ rowOf (kindOf k) .most
+    → (eqb k 4 && ltb tries o) ≡ false → (eqb k 1 && has used o) ≡ false → Sound tries used (node k o)
+unfolding rowOf kindOf kinds
+by-kind tries used zero o b l m e f = subst (λ (o : ℕ). Sound tries used (node 0 o)) (only-zero o m) nothing
+by-kind tries used (suc zero) o b l m e f = pause o l m f
+by-kind tries used (suc (suc zero)) o b l m e f = gotopause o l m
+by-kind tries used (suc (suc (suc zero))) o b l m e f = emit o m
+by-kind tries used (suc (suc (suc (suc zero)))) o b l m e f = exit o l m (ltb-false tries o e)
+by-kind tries used (suc (suc (suc (suc (suc zero))))) o b l m e f = signal o m
+by-kind tries used (suc (suc (suc (suc (suc (suc zero)))))) o b l m e f = present o m
+by-kind tries used (suc (suc (suc (suc (suc (suc (suc zero))))))) o b l m e f = subst (λ (o : ℕ). Sound tries used (node 7 o)) (only-zero o m) sequence
+by-kind tries used (suc (suc (suc (suc (suc (suc (suc (suc zero)))))))) o b l m e f = subst (λ (o : ℕ). Sound tries used (node 8 o)) (only-zero o m) parallel
+by-kind tries used (suc (suc (suc (suc (suc (suc (suc (suc (suc zero))))))))) o b l m e f = subst (λ (o : ℕ). Sound tries used (node 9 o)) (only-zero o m) loop
+by-kind tries used (suc (suc (suc (suc (suc (suc (suc (suc (suc (suc zero)))))))))) o b l m e f = subst (λ (o : ℕ). Sound tries used (node 10 o)) (only-zero o m) try
+by-kind tries used (suc (suc (suc (suc (suc (suc (suc (suc (suc (suc (suc k))))))))))) o b l m e f = absurd (omega arith)
+
+pub fault-sound : (left tries used x : ℕ) → faultOf left tries used x ≡ 0 → (1 ≤ left) × Sound tries used x
+unfolding faultOf
+fault-sound left tries used x h =
+    let k = x / 64 in
+    let o = x % 64 in
+    let (a, b, c, d, e) = none-of (ltb 10 k) (ltb o (rowOf (kindOf k) .least) || ltb (rowOf (kindOf k) .most) o) (eqb left 0) (eqb k 4 && ltb tries o) (eqb k 1 && has used o) h in
+    let (l, m) = or-neither (ltb o (rowOf (kindOf k) .least)) (ltb (rowOf (kindOf k) .most) o) b in
+    let n : left ≡ 0 → ⊥ = eqb-false left 0 c in
+    (omega arith, subst (Sound tries used) (node-split x) (by-kind tries used k o (ltb-false 10 k a) (ltb-false _ _ l) (ltb-false _ _ m) d e))
+
+fault-node : (left tries used k o : ℕ) → o < 64 → faultOf left tries used (node k o) ≡ faultAt left tries used k o
+unfolding faultOf
+fault-node left tries used k o h = rw (kind-node k o h, operand-node k o h)
+
+pub sound-fault : (left tries used x : ℕ) → Sound tries used x → faultOf (suc left) tries used x ≡ 0
+unfolding faultOf rowOf kindOf kinds
+sound-fault left tries used x nothing = rw eqb·suc-zero
+sound-fault left tries used x (pause l a b u) = fault-node (suc left) tries used 1 l (omega arith) ∙ rw (eqb·suc-zero, le-ltb l 1 a, le-ltb 63 l b, u)
+sound-fault left tries used x (gotopause l a b) = fault-node (suc left) tries used 2 l (omega arith) ∙ rw (eqb·suc-zero, le-ltb l 1 a, le-ltb 63 l b)
+sound-fault left tries used x (emit S b) = fault-node (suc left) tries used 3 S (omega arith) ∙ rw (eqb·suc-zero, le-ltb S 0 zero-le, le-ltb 31 S b)
+sound-fault left tries used x (exit d a b c) = fault-node (suc left) tries used 4 d (omega arith) ∙ rw (eqb·suc-zero, le-ltb d 1 a, le-ltb 63 d b, le-ltb tries d c)
+sound-fault left tries used x (signal S b) = fault-node (suc left) tries used 5 S (omega arith) ∙ rw (eqb·suc-zero, le-ltb S 0 zero-le, le-ltb 31 S b)
+sound-fault left tries used x (present S b) = fault-node (suc left) tries used 6 S (omega arith) ∙ rw (eqb·suc-zero, le-ltb S 0 zero-le, le-ltb 31 S b)
+sound-fault left tries used x sequence = rw eqb·suc-zero
+sound-fault left tries used x parallel = rw eqb·suc-zero
+sound-fault left tries used x loop = rw eqb·suc-zero
+sound-fault left tries used x try = rw eqb·suc-zero
+
+-- ---- The tests one after the other, on a node's kind, operand and row
+abbrev firstTwo : Bool → Bool → ℕ
+firstTwo b c = cond b 7 (cond c 8 0)
+
+first-two : (b c : Bool) (range depth : ℕ) → range ≡ cond b 7 0 → depth ≡ cond c 8 0 → cond (eqb range 0) depth range ≡ firstTwo b c
+first-two true c range depth e f = rw e
+first-two false c range depth e f = rw (e, f)
+
+some-first : (b c d e : Bool) → (firstTwo b c ≡ 0 → ⊥) → firstTwo b c ≡ firstOf false b c d e
+some-first true c d e n = refl
+some-first false true d e n = refl
+some-first false false d e n = absurd (n refl)
+
+none-first : (b c d e : Bool) → firstTwo b c ≡ 0 → firstOf false b c d e ≡ firstOf false false false d e
+none-first true c d e z = absurd (omega arith)
+none-first false true d e z = absurd (omega arith)
+none-first false false d e z = refl
+
+pub fault-kind : (left tries used x k : ℕ) → k ≡ x / 64 → 10 < k → 6 ≡ faultOf left tries used x
+unfolding faultOf
+fault-kind left tries used x k e h = rw (← e, lt-ltb 10 k h)
+
+-- the kind k is known; the operand o and the row r gave `range`, the depth that is left gave `depth`, and `why` is the first of
+-- the two that is a fault
+pub record Early (left x k o : ℕ) (r : Row) (range depth why : ℕ) : Type 0 where
+  pub kind : k ≡ x / 64
+  pub known : k ≤ 10
+  pub operand : o ≡ x % 64
+  pub row : r ≡ rowOf (kindOf k)
+  pub ranged : range ≡ cond (ltb o (r .least) || ltb (r .most) o) 7 0
+  pub deep : depth ≡ cond (eqb left 0) 8 0
+  pub first : why ≡ cond (eqb range 0) depth range
+
+module _ (tries used : ℕ) {left x k o : ℕ} {r : Row} {range depth why : ℕ} (e : Early left x k o r range depth why) where
+  abbrev outside : Bool
+  outside = ltb o (r .least) || ltb (r .most) o
+
+  abbrev exits : Bool
+  exits = eqb k 4 && ltb tries o
+
+  abbrev pauses : Bool
+  pauses = eqb k 1 && has used o
+
+  tested : faultOf left tries used x ≡ firstOf false outside (eqb left 0) exits pauses
+  unfolding faultOf
+  tested = rw (← e .kind, ← e .operand, ← e .row, le-ltb 10 k (e .known))
+
+  early : why ≡ firstTwo outside (eqb left 0)
+  early = e .first ∙ first-two outside (eqb left 0) range depth (e .ranged) (e .deep)
+
+  pub fault-early : (why ≡ 0 → ⊥) → why ≡ faultOf left tries used x
+  fault-early n = early ∙ some-first outside (eqb left 0) exits pauses (λ z. n (early ∙ z)) ∙ sym tested
+
+  module _ (z : why ≡ 0) where
+    later : faultOf left tries used x ≡ firstOf false false false exits pauses
+    later = tested ∙ none-first outside (eqb left 0) exits pauses (sym early ∙ z)
+
+    pub fault-level : k ≡ 4 → cond (ltb tries o) 9 0 ≡ faultOf left tries used x
+    fault-level h = rw (later, h)
+
+    module _ (inner : k ≡ 4 → ⊥) where
+      pub fault-label : k ≡ 1 → cond (has used o) 10 0 ≡ faultOf left tries used x
+      fault-label h = rw (later, ne-eqb k 4 inner, eq-eqb k 1 h)
+
+      pub fault-none : (k ≡ 1 → ⊥) → 0 ≡ faultOf left tries used x
+      fault-none h = rw (later, ne-eqb k 4 inner, ne-eqb k 1 h)

@@ -1,0 +1,26 @@
+-- What the functions that read a table leave, as functions of their arguments: two bytes as a word, the buffer of decoded
+-- nodes, and how far a walk over it came.
+use mathlib.Core.Path.{_≡_}
+use Prim.Native.Nat.{ℕ, _+_, _-_, _*_, _≤_}
+use mathlib.Core.List.{List, _++_}
+use lib.ListN.{length, drop, getD}
+use Rattle.table.specs.declared.Checked.{Checked}
+use Rattle.table.specs.declared.Checked.the-variants.{Refused, Accepted}
+use Rattle.table.specs.Reading.{Reading, refused, read, headerOf, nodesOf}
+
+-- the bytes at a place and after it, side by side
+abbrev pub wordAt : List ℕ → ℕ → ℕ
+wordAt t at = getD t at 0 * 256 + getD t (at + 1) 0
+
+-- the buffer `old` after a table was loaded into it: where the header is accepted, its nodes stand in front
+unfoldable pub loadedAfter : Checked → List ℕ → List ℕ → List ℕ
+loadedAfter (Refused w) t old = old
+loadedAfter (Accepted n) t old = nodesOf t n ++ drop n old
+
+unfoldable pub loadedOf : List ℕ → List ℕ → List ℕ
+loadedOf t old = loadedAfter (headerOf t) t old
+
+-- what a walk over n nodes gives for a reading: the refusal r, or 0 with the place of the nodes that are left and the labels
+abbrev pub Walked : ℕ → Reading → ℕ → ℕ → ℕ → Type 0
+Walked n (refused w) r at used = (r ≡ w) × (1 ≤ w)
+Walked n (read p ys labels) r at used = (r ≡ 0) × (at ≡ n - length ys) × (used ≡ labels)

@@ -1,0 +1,83 @@
+-- Writing a statement as a table, also one that no table may hold.
+use Prim.Native.Nat.{ℕ, _+_, _*_, _^_, _≤_, _<_}
+use mathlib.Core.Path.{_≡_}
+use mathlib.Core.Bool.{cond}
+use mathlib.Core.List.{List, [], _∷_, _++_}
+use lib.Dec.{ltb}
+use lib.ListN.{length}
+use Rattle.esterel.specs.Statement.{Statement, nothing, pause, gotopause, emit, exit, signal, present, sequence, parallel, loop, try, size, depth, Valid}
+use Rattle.table.specs.declared.Row.{Row}
+use Rattle.table.specs.Kinds.{kindOf, rowOf}
+use Rattle.table.specs.Bits.{bits, bytesOf, Below}
+use Rattle.table.specs.Reading.{lengthOf, deepest}
+
+abbrev pub node : ℕ → ℕ → ℕ
+node kind operand = kind * 64 + operand
+
+-- "Nodes stand parent first, then first child with all below it, then second child"
+unfoldable pub nodes : Statement → List ℕ
+nodes nothing = node 0 0 ∷ []
+nodes (pause l) = node 1 l ∷ []
+nodes (gotopause l) = node 2 l ∷ []
+nodes (emit S) = node 3 S ∷ []
+nodes (exit d) = node 4 d ∷ []
+nodes (signal S p) = node 5 S ∷ nodes p
+nodes (present S p q) = node 6 S ∷ nodes p ++ nodes q
+nodes (sequence p q) = node 7 0 ∷ nodes p ++ nodes q
+nodes (parallel p q) = node 8 0 ∷ nodes p ++ nodes q
+nodes (loop p) = node 9 0 ∷ nodes p
+nodes (try p) = node 10 0 ∷ nodes p
+
+-- labels 1 to 63, signals 0 to 31 and levels 1 to 63: all that a node can say of its operand. A statement that stands in a
+-- table is Valid besides.
+unfoldable pub Ranged : Statement → Type 0
+Ranged nothing = Unit {0}
+Ranged (pause l) = (1 ≤ l) × (l ≤ 63)
+Ranged (gotopause l) = (1 ≤ l) × (l ≤ 63)
+Ranged (emit S) = S ≤ 31
+Ranged (exit d) = (1 ≤ d) × (d ≤ 63)
+Ranged (signal S p) = (S ≤ 31) × Ranged p
+Ranged (present S p q) = (S ≤ 31) × Ranged p × Ranged q
+Ranged (sequence p q) = Ranged p × Ranged q
+Ranged (parallel p q) = Ranged p × Ranged q
+Ranged (loop p) = Ranged p
+Ranged (try p) = Ranged p
+
+-- a statement that may stand in a table: "N is 1 to 1,024", "no node is deeper than 60"
+pub record Allowed (p : Statement) : Type 0 where
+  pub valid : Valid 0 p
+  pub few : size p ≤ 1024
+  pub deep : depth p ≤ deepest
+
+-- nodes of 10 bits each
+unfoldable pub nodeBits : List ℕ → List ℕ
+nodeBits [] = []
+nodeBits (x ∷ xs) = bits 10 x ++ nodeBits xs
+
+-- "4 bits edition (1), 12 bits node count N, then N nodes"
+unfoldable pub writeNodes : List ℕ → List ℕ
+writeNodes xs = bytesOf (bits 4 1 ++ (bits 12 (length xs) ++ nodeBits xs))
+
+unfoldable pub write : Statement → List ℕ
+write p = writeNodes (nodes p)
+
+-- ---- What the writer asks and makes
+
+-- the operand, or the nearest in the range of a kind
+unfoldable pub inRange : Row → ℕ → ℕ
+inRange row o = cond (ltb o (row .least)) (row .least) (cond (ltb (row .most) o) (row .most) o)
+
+-- the node that is made of a kind and an operand
+unfoldable pub nodeOf : ℕ → ℕ → ℕ
+nodeOf kind operand = node kind (inRange (rowOf (kindOf kind)) operand)
+
+-- nodes that fit their fields, few enough for the count's field, and room for their table
+pub record Writable (xs : List ℕ) (room : ℕ) : Type 0 where
+  pub few : length xs < 4096
+  pub fields : Below 1024 xs
+  pub fits : lengthOf (length xs) ≤ room
+
+-- nodes as one number
+pub record Gathered (xs : List ℕ) (count word : ℕ) : Type 0 where
+  pub fields : bits (10 * count) word ≡ nodeBits xs
+  pub small : word < 2 ^ (10 * count)

@@ -1,0 +1,27 @@
+// The node table: its kinds, reading and writing it, and check.
+mod kinds;
+mod reading;
+mod writing;
+
+pub use kinds::kind_of;
+pub use kinds::operand_of;
+pub use kinds::row_of;
+pub use reading::check;
+pub use reading::load;
+pub use reading::refusal;
+pub use writing::length_of;
+pub use writing::node_of;
+pub use writing::write_nodes;
+
+// What a kind fixes: its children, and its smallest and largest operand.
+pub struct Row {
+    pub children: u8,
+    pub least: u8,
+    pub most: u8,
+}
+
+// Check's answer: the number of the refusal, or the node count.
+pub enum Checked {
+    Refused(u8),
+    Accepted(u16),
+}

@@ -1,0 +1,235 @@
+// Reading a table: the header, the nodes out of the bytes, the statement out of the nodes. And check.
+use crate::Checked;
+use crate::Row;
+use crate::kinds::kind_of;
+use crate::kinds::operand_of;
+use crate::kinds::row_of;
+use esterel::Label;
+use esterel::Level;
+ghost use mathlib.Core.Path.{_≡_};
+ghost use mathlib.Core.Bool.{cond, _||_};
+ghost use mathlib.Core.List.{_++_};
+ghost use Prim.Native.Nat.{_+_, _≤_, _<_};
+ghost use lib.Dec.{eqb, ltb};
+ghost use lib.ListN.{length, take, drop};
+ghost use Rattle.sets.specs.Set.{has, only, _union_};
+ghost use Rattle.table.specs.Kinds.{kindOf, rowOf};
+ghost use Rattle.table.specs.Reading.{kindOfNode, lengthOf, headerOf, nodesOf, faultOf, readFrom, deepest, wholeOf, answerOf, checkOf, refusalOf};
+ghost use Rattle.table.specs.Loading.{wordAt, loadedOf, Walked};
+
+// Two bytes as a number.
+fn word_at(table: &[u8], at: usize) -> u16
+    requires { ⌜ at + 1 < length (now table) ⌝ }
+    ensures { λ r. ⌜ r ≡ wordAt (now (table .entry)) at ⌝ }
+{
+    (table[at] as u16) << 8 | table[at + 1] as u16
+}
+
+// Tests 1 to 5. Accepted gives the node count.
+fn header(table: &[u8]) -> Checked
+    ensures { λ r. ⌜ r ≡ headerOf (now (table .entry)) ⌝ }
+{
+    if table.len() < 2 {
+        return Checked::Refused(1);
+    }
+    let word = word_at(table, 0);
+    if word >> 12 != 1 {
+        return Checked::Refused(2);
+    }
+    let n = word & 0xfff;
+    if n == 0 {
+        return Checked::Refused(3);
+    }
+    if n > 1024 {
+        return Checked::Refused(3);
+    }
+    let bits = n as usize * 10;
+    if table.len() != 2 + (bits + 7 >> 3) {
+        return Checked::Refused(4);
+    }
+    let padding = 8 - (bits & 7) & 7;
+    let last = table[table.len() - 1];
+    if last & (1 << padding) - 1 != 0 {
+        return Checked::Refused(5);
+    }
+    Checked::Accepted(n)
+}
+
+// Cuts the n nodes behind the header out of the bytes. A node of 10 bits lies within two bytes.
+fn decode(table: &[u8], n: usize, nodes: &mut [u16])
+    requires { ⌜ (n ≤ 1024) × (length (now table) ≡ lengthOf n) × (n ≤ length (now nodes)) ⌝ }
+    ensures { λ _. ⌜ now (nodes .exit) ≡ nodesOf (now (table .entry)) n ++ drop n (now (nodes .entry)) ⌝ }
+{
+    let mut i = 0;
+    while i < n {
+        let bit = i * 10;
+        let word = word_at(table, 2 + (bit >> 3));
+        nodes[i] = word >> (6 - (bit & 7)) & 0x3ff;
+        i += 1;
+    }
+}
+
+// "7 operand out of range", or 0.
+fn range_fault(operand: u8, row: Row) -> u8
+    ensures { λ r. ⌜ r ≡ cond (ltb operand (row .least) || ltb (row .most) operand) 7 0 ⌝ }
+{
+    if operand < row.least {
+        return 7;
+    }
+    if operand > row.most {
+        return 7;
+    }
+    0
+}
+
+// "8 too deep", or 0.
+fn depth_fault(left: u8) -> u8
+    ensures { λ r. ⌜ r ≡ cond (eqb left 0) 8 0 ⌝ }
+{
+    if left == 0 { 8 } else { 0 }
+}
+
+// "9 exit level too high", or 0.
+fn level_fault(level: Level, tries: u8) -> u8
+    ensures { λ r. ⌜ r ≡ cond (ltb tries (level .0)) 9 0 ⌝ }
+{
+    if level.0 > tries { 9 } else { 0 }
+}
+
+// "10 pause label already used", or 0.
+fn label_fault(label: Label, used: u64) -> u8
+    ensures { λ r. ⌜ r ≡ cond (has used (label .0)) 10 0 ⌝ }
+{
+    if sets::contains(used, label.0) { 10 } else { 0 }
+}
+
+// The first of two faults that is one.
+fn first_of(fault: u8, next: u8) -> u8
+    ensures { λ r. ⌜ r ≡ cond (eqb fault 0) next fault ⌝ }
+{
+    if fault == 0 { next } else { fault }
+}
+
+// What is wrong with a node whose kind fixes the row: the number of the refusal, 6 to 10, or 0.
+fn fault_of(node: u16, row: Row, left: u8, tries: u8, used: u64) -> u8
+    requires { ⌜ row ≡ rowOf (kindOf (kindOfNode node)) ⌝ }
+    ensures { λ r. ⌜ r ≡ faultOf left tries used node ⌝ }
+{
+    let kind = kind_of(node);
+    if kind > 10 {
+        return 6;
+    }
+    let operand = operand_of(node);
+    let range = range_fault(operand, row);
+    let depth = depth_fault(left);
+    let why = first_of(range, depth);
+    if why != 0 {
+        return why;
+    }
+    if kind == 4 {
+        return level_fault(Level(operand), tries);
+    }
+    if kind == 1 {
+        return label_fault(Label(operand), used);
+    }
+    0
+}
+
+// The labels used, with one more.
+fn use_label(label: Label, used: u64) -> u64
+    requires { ⌜ label .0 < 64 ⌝ }
+    ensures { λ r. ⌜ r ≡ used union only (label .0) ⌝ }
+{
+    used | sets::singleton(label.0)
+}
+
+// Walks over the statement at node `at` of the first n, with all below it, inside `tries` try statements; `left` is the depth
+// that is left, that node's included. Gives the number of the refusal, or 0 with the place after the statement in `at` and
+// its labels added to `used`.
+fn walk(nodes: &[u16; 1024], n: usize, left: u8, tries: u8, at: &mut usize, used: &mut u64) -> u8
+    requires { ⌜ (n ≤ 1024) × (length (now nodes) ≡ 1024) × (tries + left ≤ 255) ⌝ }
+    ensures { λ r. ⌜ Walked n (readFrom left tries (now (used .entry)) (drop (now (at .entry)) (take n (now (nodes .entry))))) r (now (at .exit)) (now (used .exit)) ⌝ }
+{
+    let here = *at;
+    if n <= here {
+        return 11;
+    }
+    let node = nodes[here];
+    let kind = kind_of(node);
+    let row = row_of(kind);
+    let why = fault_of(node, row, left, tries, *used);
+    if why != 0 {
+        return why;
+    }
+    *at = here + 1;
+    let below = left - 1;
+    match kind {
+        0 => 0,
+        1 => {
+            *used = use_label(Label(operand_of(node)), *used);
+            0
+        }
+        2..=4 => 0,
+        5..=9 => {
+            if row.children == 1 {
+                return walk(nodes, n, below, tries, at, used);
+            }
+            let first = walk(nodes, n, below, tries, at, used);
+            if first != 0 {
+                return first;
+            }
+            walk(nodes, n, below, tries, at, used)
+        }
+        10 => walk(nodes, n, below, tries + 1, at, used),
+        11..=15 => 6,
+        _ => 6,
+    }
+}
+
+// Tests 6 to 11, on the first n nodes.
+fn walk_all(nodes: &[u16; 1024], n: u16) -> Checked
+    requires { ⌜ (n ≤ 1024) × (length (now nodes) ≡ 1024) ⌝ }
+    ensures { λ r. ⌜ r ≡ answerOf (wholeOf n (readFrom deepest 0 0 (take n (now (nodes .entry))))) ⌝ }
+{
+    let count = n as usize;
+    let mut at = 0;
+    let mut used = 0;
+    let why = walk(nodes, count, 60, 0, &mut at, &mut used);
+    if why != 0 {
+        return Checked::Refused(why);
+    }
+    if at != count {
+        return Checked::Refused(11);
+    }
+    Checked::Accepted(n)
+}
+
+// Check, with the nodes left decoded in front of the buffer.
+pub fn load(table: &[u8], nodes: &mut [u16; 1024]) -> Checked
+    ensures { λ r. ⌜ (r ≡ checkOf (now (table .entry))) × (now (nodes .exit) ≡ loadedOf (now (table .entry)) (now (nodes .entry))) ⌝ }
+{
+    let head = header(table);
+    let Checked::Accepted(n) = head else {
+        return head;
+    };
+    decode(table, n as usize, nodes);
+    walk_all(nodes, n)
+}
+
+// Whether the bytes are a table: the number of the refusal, or the node count.
+pub fn check(table: &[u8]) -> Checked
+    ensures { λ r. ⌜ r ≡ checkOf (now (table .entry)) ⌝ }
+{
+    let mut nodes = [0u16; 1024];
+    load(table, &mut nodes)
+}
+
+// Document 01's number for an answer of check: the refusal, 0 where the table is accepted.
+pub fn refusal(checked: Checked) -> u8
+    ensures { λ r. ⌜ r ≡ refusalOf checked ⌝ }
+{
+    match checked {
+        Checked::Refused(why) => why,
+        Checked::Accepted(_) => 0,
+    }
+}
