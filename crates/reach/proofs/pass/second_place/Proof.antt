@@ -1,0 +1,16 @@
+-- `pass::second_place` meets its contract.
+use mathlib.Core.Path.{refl}
+use borrow.Author.Needs.{needs}
+use Rattle.reach.specs.Notes.{secondOf}
+use Rattle.reach.proofs.pass.second_place.Statement.{statement}
+use Rattle.reach.proofs.pass.second_place.Tie as tie
+
+cast-result : tie.Need-cast-result
+cast-result c = search needs
+
+returns : tie.Need-returns
+unfolding secondOf
+returns c = refl
+
+pub second-place-spec : {M : Type 1} → statement M
+second-place-spec = tie.close (tie.spec cast-result returns)
