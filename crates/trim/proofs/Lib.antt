@@ -1,0 +1,13 @@
+pub mod Levels
+pub mod Dropped
+pub mod Trimming
+pub mod Parts
+pub mod Walk
+pub mod Notes
+pub mod Steps
+pub mod ByKind
+pub mod Leaving
+pub mod Marking
+pub mod Root
+pub mod Answers
+pub mod Counterexamples

@@ -1,0 +1,32 @@
+-- A step of a walk over the nodes: the node that is there, by the tests that the walk makes.
+use mathlib.Core.Path.{_≡_, sym, ap, _∙_}
+use mathlib.Core.Logic.{_≢_}
+use mathlib.Core.Bool.{false}
+use mathlib.Core.List.{List}
+use Prim.Native.Nat.{ℕ, suc, _+_, _-_, _≤_, zero-le}
+use native.Mathlib.Omega.{arith}
+use borrow.Author.Tests.{leb-false}
+use lib.Dec.{leb}
+use lib.ListN.{length, getD}
+use Rattle.table.specs.Kinds.{kindOf, rowOf}
+use Rattle.table.specs.Reading.{kindOfNode, operandOf}
+use Rattle.table.specs.Places.{Placed, statementAt}
+use Rattle.reach.proofs.Nodes.{Node, placed-node, place-next, follow-forward, next-forward}
+
+pub there : {left : ℕ} {nodes : List ℕ} {at k kind : ℕ} → left ≢ 0 → leb (length nodes) at ≡ false → kind ≡ kindOfNode (getD nodes at 0) → kind ≡ k → Node left nodes at k
+there {left} {nodes} {at} h i e k = record { some = h; inside = leb-false (length nodes) at i; kind = sym e ∙ k }
+
+-- a node that is there is passed
+pub next-after : {left : ℕ} {nodes : List ℕ} {at k : ℕ} → Node left nodes at k → at + 1 ≤ statementAt left nodes at .next
+next-after {left} {nodes} {at} {k} n =
+    let e = ap (λ (p : Placed). p .next) (placed-node n) ∙ place-next (kindOf k) (operandOf (getD nodes at 0)) (statementAt (left - 1) nodes) (at + 1) in
+    let f = follow-forward (statementAt (left - 1) nodes) (next-forward nodes (left - 1)) (rowOf (kindOf k) .children) (at + 1) in
+    omega arith
+
+-- a number that is none of the kinds
+up : (n k : ℕ) → n ≤ k → k ≢ n → suc n ≤ k
+up n k h e = omega arith
+
+pub past-kinds : (k : ℕ) → k ≢ 0 → k ≢ 1 → k ≢ 2 → k ≢ 3 → k ≢ 4 → k ≢ 5 → k ≢ 6 → k ≢ 7 → k ≢ 8 → k ≢ 9 → k ≢ 10 → 11 ≤ k
+past-kinds k a b c d e f g h i j l =
+    up 10 k (up 9 k (up 8 k (up 7 k (up 6 k (up 5 k (up 4 k (up 3 k (up 2 k (up 1 k (up 0 k zero-le a) b) c) d) e) f) g) h) i) j) l

@@ -1,0 +1,16 @@
+-- `marks::exit_at` meets its contract: level d + 1 has bit d.
+use Prim.Native.Nat.{ℕ, _/_}
+use mathlib.Core.Path.{ap}
+use Rattle.trim.specs.Marking.{exits}
+use borrow.Author.Needs.{needs}
+use Rattle.trim.proofs.marks.exit_at.Statement.{statement}
+use Rattle.trim.proofs.marks.exit_at.Tie as tie
+
+singleton-requires : tie.Need-singleton-requires
+singleton-requires c κs = search needs
+
+returns : tie.Need-returns
+returns c = ap (λ (n : ℕ). exits 0 (n / 2)) (c .singleton .ensures)
+
+pub exit-at-spec : {M : Type 1} → statement M
+exit-at-spec = tie.close (tie.spec singleton-requires returns)

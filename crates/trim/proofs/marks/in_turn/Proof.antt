@@ -1,0 +1,29 @@
+-- `marks::in_turn` meets its contract, from what the note says.
+use Prim.Native.Nat.{ℕ}
+use mathlib.Core.Bool.{Bool}
+use mathlib.Core.Path.{ap, ap₂, _∙_}
+use lib.Bits.{bitOr}
+use Rattle.trim.specs.Marking.{exits, exitsIf}
+use borrow.Author.Needs.{needs}
+use Rattle.trim.proofs.marks.in_turn.Statement.{statement}
+use Rattle.trim.proofs.marks.in_turn.Tie as tie
+
+can-end-requires : tie.Need-can-end-requires
+can-end-requires c κs = search needs
+
+exits-if-requires : tie.Need-exits-if-requires
+exits-if-requires c κs = search needs
+
+can-end-requires-2 : tie.Need-can-end-requires-2
+can-end-requires-2 c κs = search needs
+
+exits-if-requires-2 : tie.Need-exits-if-requires-2
+exits-if-requires-2 c κs = search needs
+
+returns : tie.Need-returns
+returns c = let s = c .before .before .before .before .before .before in ap₂ (λ (m n : ℕ). exits (bitOr (s .args .p .resumed) m) (bitOr (s .args .p .started) n)) (c .before .before .before .before .exits-if .ensures ∙ ap (λ (z : Bool). exitsIf z (s .args .q)) (c .before .before .before .before .before .can-end .ensures)) (c .before .exits-if2 .ensures ∙ ap (λ (z : Bool). exitsIf z (s .args .q)) (c .before .before .can-end2 .ensures))
+
+pub in-turn-spec : {M : Type 1} → statement M
+in-turn-spec =
+    tie.close
+    (tie.spec can-end-requires exits-if-requires can-end-requires-2 exits-if-requires-2 returns)

@@ -1,0 +1,34 @@
+-- `work::put` meets its contract: the node is the one of the table of kinds.
+use denote.Ref.{now}
+use Prim.Native.Nat.{ℕ, _-_}
+use mathlib.Core.Path.{refl, ap}
+use lib.ListN.{set}
+use borrow.Author.Needs.{needs}
+use Rattle.trim.proofs.work.put.Statement.{statement}
+use Rattle.trim.proofs.work.put.Tie as tie
+
+node-of-requires : tie.Need-node-of-requires
+node-of-requires c κs = search needs
+
+sub-work : tie.Need-sub-work
+sub-work c = search needs
+
+mul-work : tie.Need-mul-work
+mul-work c = search needs
+
+slice-write-work : tie.Need-slice-write-work
+slice-write-work c = search needs
+
+sub-result : tie.Need-sub-result
+sub-result c = search needs
+
+same-length : tie.Need-same-length
+same-length c = search needs
+
+returns : tie.Need-returns
+returns c = let s = c .before .before in (refl, ap (λ (x : ℕ). set (now (s .args .work)) (s .args .from - 1) x) (c .node-of .ensures))
+
+pub put-spec : {M : Type 1} → statement M
+put-spec =
+    tie.close
+    (tie.spec node-of-requires sub-work mul-work slice-write-work sub-result same-length returns)

@@ -1,0 +1,47 @@
+-- Trimming a whole statement: what it asks, where the trimmed statement stands, and how the operation ends.
+use Prim.Native.Nat.{ℕ, _≤_}
+use mathlib.Core.Path.{_≡_}
+use mathlib.Core.Logic.{_≢_}
+use mathlib.Core.List.{List}
+use lib.ListN.{length, getD, drop}
+use Rattle.esterel.specs.Statement.{Statement, size, depth, Valid}
+use Rattle.table.specs.Reading.{deepest}
+use Rattle.table.specs.Bits.{Below}
+use Rattle.table.specs.Places.{statementAt}
+use Rattle.table.specs.Writing.{nodes}
+use Rattle.reach.specs.Rounds.{statementOf}
+use Rattle.trim.specs.declared.work.Part.{Part}
+use Rattle.trim.specs.declared.Trimmed.{Trimmed}
+use Rattle.trim.specs.Answers.{answerFor, bufferFor}
+
+-- nodes that hold one valid statement and nothing after it
+pub record Tree (nodes : List ℕ) : Type 0 where
+  pub few : length nodes ≤ 1024
+  pub whole : statementAt deepest nodes 0 .next ≡ length nodes
+  pub valid : Valid 0 (statementOf nodes)
+  pub shallow : depth (statementOf nodes) ≤ deepest
+  pub small : size (statementOf nodes) ≤ 1024
+
+-- room for trimming them
+pub record Lent (notes places work : List ℕ) : Type 0 where
+  pub notes-are : length notes ≡ 1024
+  pub places-are : length places ≡ 64
+  pub outermost : getD places 0 0 ≡ 0
+  pub work-is : length work ≡ 4096
+
+-- the statement q stands at the end of the work area
+pub record Ends (q : Statement) (part : Part) (work : List ℕ) : Type 0 where
+  pub stands : drop (part .from) work ≡ nodes q
+  pub within : part .from ≤ length work
+  pub deep : part .depth ≡ depth q
+
+-- nodes at the end of the work area that fit their fields
+pub record Fields (part : Part) (work : List ℕ) : Type 0 where
+  pub within : part .from ≤ length work
+  pub few : length work ≤ 4096
+  pub some : part .from ≢ 0
+  pub fields : Below 1024 (drop (part .from) work)
+
+-- the end of trimming, whatever statement stands there
+unfoldable pub Finished : List ℕ → Part → List ℕ → Trimmed → List ℕ → Type 0
+Finished work part out r out′ = (q : Statement) → Ends q part work → (r ≡ answerFor q (length out)) × (out′ ≡ bufferFor q out)

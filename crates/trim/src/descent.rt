@@ -1,0 +1,174 @@
+// The descent over the tree that trims it. Each node is looked at once: reach's notes say where its second child stands and
+// whether its first can end, the marks which try statements are kept, so an exit gets its level at once.
+use crate::work;
+use crate::work::Part;
+use esterel::Label;
+use esterel::Level;
+use reach::pass;
+ghost use mathlib.Core.Path.{_≡_};
+ghost use mathlib.Core.Bool.{_||_};
+ghost use Prim.Native.Nat.{_+_, _≤_, _<_};
+ghost use lib.ListN.{length};
+ghost use Rattle.sets.specs.Set.{has};
+ghost use Rattle.table.specs.Places.{statementAt};
+ghost use Rattle.trim.specs.Levels.{levelOut, startedIf, inElse, inTry, placesIn};
+ghost use Rattle.trim.specs.Notes.{keptOf};
+ghost use Rattle.trim.specs.Parts.{ExitReady, Ready, Done};
+
+// What stands around a statement that is trimmed: whether it may be started, the try statements of the source, and how
+// many try statements stand around it in the trimmed table.
+pub struct Around {
+    pub started: bool,
+    pub tries: usize,
+    pub kept: u8,
+}
+
+fn with_started(around: Around, started: bool) -> Around
+    ensures { λ r. ⌜ r ≡ startedIf started around ⌝ }
+{
+    Around {
+        started,
+        tries: around.tries,
+        kept: around.kept,
+    }
+}
+
+// Around the else branch of a present.
+fn in_else(around: Around, guarded: bool) -> Around
+    requires { ⌜ around .kept ≤ 60 ⌝ }
+    ensures { λ r. ⌜ r ≡ inElse guarded around ⌝ }
+{
+    if around.started {
+        return around;
+    }
+    if !guarded {
+        return around;
+    }
+    Around {
+        started: around.started,
+        tries: around.tries,
+        kept: around.kept + 1,
+    }
+}
+
+// Around the body of a try, whose place is noted.
+fn in_try(places: &mut [u8], around: Around, kept: bool) -> Around
+    requires { ⌜ (around .tries + 1 < length (now places)) × (around .kept ≤ 60) ⌝ }
+    ensures { λ r. ⌜ (r ≡ inTry kept around) × (now (places .exit) ≡ placesIn around (now (places .entry))) ⌝ }
+{
+    let tries = around.tries + 1;
+    places[tries] = around.kept;
+    if kept {
+        return Around {
+            started: around.started,
+            tries,
+            kept: around.kept + 1,
+        };
+    }
+    Around {
+        started: around.started,
+        tries,
+        kept: around.kept,
+    }
+}
+
+// The level in the trimmed table of an exit of the source.
+fn level_out(places: &[u8], around: Around, level: Level) -> Level
+    requires { ⌜ ExitReady (now places) around (level .0) ⌝ }
+    ensures { λ r. ⌜ r .0 ≡ levelOut (now (places .entry)) around (level .0) ⌝ }
+{
+    let number = around.tries + 1 - level.0 as usize;
+    Level(around.kept - places[number])
+}
+
+// "A pause becomes nothing where b = 0 and its label is outside R".
+fn keeps_pause(reached: u64, label: Label, started: bool) -> bool
+    ensures { λ r. ⌜ r ≡ (started || has reached (label .0)) ⌝ }
+{
+    if started {
+        return true;
+    }
+    sets::contains(reached, label.0)
+}
+
+// Whether a try is kept where it is trimmed with b, from its note.
+fn keeps_try(note: u16, b: bool) -> bool
+    ensures { λ r. ⌜ r ≡ keptOf note b ⌝ }
+{
+    if b { note & 1 == 1 } else { note >> 1 & 1 == 1 }
+}
+
+// Writes the trimmed statement at a place into the work area, so that it ends at `to`. The second child is written first,
+// so nothing is ever moved.
+pub fn trim_at(
+    nodes: &[u16],
+    notes: &[u16],
+    r: u64,
+    at: usize,
+    left: usize,
+    around: Around,
+    places: &mut [u8],
+    work: &mut [u16],
+    to: usize,
+) -> Part
+    requires { ⌜ Ready r (now nodes) (now notes) at left around (now places) (now work) to ⌝ }
+    ensures { λ part. ⌜ Done r (statementAt left (now (nodes .entry)) at) at left around (now (places .entry)) (now (work .entry)) to part (now (places .exit)) (now (work .exit)) ⌝ }
+{
+    if left == 0 || nodes.len() <= at {
+        return work::nothing(to);
+    }
+    let node = nodes[at];
+    let note = notes[at];
+    let operand = table::operand_of(node);
+    let first = at + 1;
+    let second = pass::second_place(note);
+    let below = left - 1;
+    let b = around.started;
+    match table::kind_of(node) {
+        0 => work::nothing(to),
+        1 => work::put_if(work, to, keeps_pause(r, Label(operand), b), 1, operand, 0),
+        2 => work::put_if(work, to, b, 2, operand, 0),
+        3 => work::put_if(work, to, b, 3, operand, sets::singleton(operand)),
+        4 => {
+            let level = level_out(places, around, Level(operand));
+            work::put_if(work, to, b, 4, level.0, 0)
+        }
+        5 => {
+            let p = trim_at(nodes, notes, r, first, below, around, places, work, to);
+            work::wrap_if(work, p, to, sets::contains(p.named, operand), 5, operand)
+        }
+        6 => {
+            let guarded = pass::can_end(note, false);
+            let inner = in_else(around, guarded);
+            let q = trim_at(nodes, notes, r, second, below, inner, places, work, to);
+            let e = work::close_else(work, q, to, b, guarded);
+            let p = trim_at(nodes, notes, r, first, below, around, places, work, e.from);
+            work::close_present(work, p, e, to, b, operand)
+        }
+        7 => {
+            let inner = with_started(around, pass::can_end(note, b));
+            let q = trim_at(nodes, notes, r, second, below, inner, places, work, to);
+            let p = trim_at(nodes, notes, r, first, below, around, places, work, q.from);
+            work::join_parts(work, p, q, to, 7)
+        }
+        8 => {
+            let q = trim_at(nodes, notes, r, second, below, around, places, work, to);
+            let p = trim_at(nodes, notes, r, first, below, around, places, work, q.from);
+            work::join_parts(work, p, q, to, 8)
+        }
+        9 => {
+            let again = pass::can_end(note, b);
+            let inner = with_started(around, again | b);
+            let p = trim_at(nodes, notes, r, first, below, inner, places, work, to);
+            work::wrap_if(work, p, to, again, 9, 0)
+        }
+        10 => {
+            let kept = keeps_try(note, b);
+            let inner = in_try(places, around, kept);
+            let p = trim_at(nodes, notes, r, first, below, inner, places, work, to);
+            work::wrap_if(work, p, to, kept, 10, 0)
+        }
+        11..=15 => work::nothing(to),
+        _ => work::nothing(to),
+    }
+}

@@ -1,0 +1,106 @@
+// Trim: the table of the trimmed statement.
+//
+// The cost: the nodes are cut out of the bytes and checked once; reach's rounds take a pass each; then one pass marks the try
+// statements that are kept, one writes the trimmed nodes, and one packs them. A pass looks at each node once and does a
+// bounded number of steps there, whatever the depth. Trimming works in an area of its own, four places for each node, and
+// touches the caller's buffer only when the table is known to fit.
+mod descent;
+mod marks;
+mod work;
+
+use descent::Around;
+use table::Checked;
+use work::Part;
+ghost use mathlib.Core.Path.{_≡_};
+ghost use lib.ListN.{length};
+ghost use Rattle.esterel.specs.Trimming.{trimmed};
+ghost use Rattle.reach.specs.Rounds.{statementOf};
+ghost use Rattle.trim.specs.Answers.{trimOf, bufferOf};
+ghost use Rattle.trim.specs.Root.{Tree, Lent, Ends, Fields, Finished};
+
+// A trimmed table: its nodes, and its length in bytes.
+pub struct Written {
+    pub nodes: u16,
+    pub bytes: usize,
+}
+
+// Trim's answer: the number of the refusal, or what the buffer begins with.
+pub enum Trimmed {
+    Refused(u8),
+    Accepted(Written),
+}
+
+// Trims the statement that the nodes hold, to the end of the work area.
+fn trim_nodes(nodes: &[u16], notes: &mut [u16; 1024], places: &mut [u8], work: &mut [u16]) -> Part
+    requires { ⌜ Tree (now nodes) ⌝ }
+    requires { ⌜ Lent (now notes) (now places) (now work) ⌝ }
+    ensures { λ r. ⌜ Ends (trimmed (statementOf (now (nodes .entry)))) r (now (work .exit)) ⌝ }
+{
+    let found = reach::settle(nodes, notes);
+    marks::mark_at(nodes, 0, 60, notes);
+    let around = Around {
+        started: true,
+        tries: 0,
+        kept: 0,
+    };
+    let to = work.len();
+    let part = descent::trim_at(nodes, notes, found.set, 0, 60, around, places, work, to);
+    work::fill(work, part, to)
+}
+
+// The answer for the statement at the end of the work area, whose table is written where it fits.
+fn finish(work: &[u16], part: Part, out: &mut [u8]) -> Trimmed
+    requires { ⌜ Fields part (now work) ⌝ }
+    ensures { λ r. ⌜ Finished (now (work .entry)) part (now (out .entry)) r (now (out .exit)) ⌝ }
+{
+    let from = part.from;
+    let count = work.len() - from;
+    if 1024 < count {
+        return Trimmed::Refused(12);
+    }
+    if 60 < part.depth {
+        return Trimmed::Refused(12);
+    }
+    let bytes = table::length_of(count);
+    if out.len() < bytes {
+        return Trimmed::Refused(13);
+    }
+    table::write_nodes(&work[from..], out);
+    Trimmed::Accepted(Written {
+        nodes: count as u16,
+        bytes,
+    })
+}
+
+// Trim, with room lent for the nodes, their notes, the places of try statements and the trimmed nodes.
+fn trim_with(
+    table: &[u8],
+    out: &mut [u8],
+    nodes: &mut [u16; 1024],
+    notes: &mut [u16; 1024],
+    places: &mut [u8; 64],
+    work: &mut [u16; 4096],
+) -> Trimmed
+    requires { ⌜ Lent (now notes) (now places) (now work) ⌝ }
+    ensures { λ r. ⌜ (r ≡ trimOf (now (table .entry)) (length (now (out .entry)))) × (now (out .exit) ≡ bufferOf (now (table .entry)) (now (out .entry))) ⌝ }
+{
+    let checked = table::load(table, nodes);
+    let Checked::Accepted(n) = checked else {
+        return Trimmed::Refused(table::refusal(checked));
+    };
+    let count = n as usize;
+    let loaded = &nodes[..];
+    let part = trim_nodes(&loaded[..count], notes, places, work);
+    finish(work, part, out)
+}
+
+// Trims a table into the buffer.
+pub fn trim(table: &[u8], out: &mut [u8]) -> Trimmed
+    ensures { λ r. ⌜ (r ≡ trimOf (now (table .entry)) (length (now (out .entry)))) × (now (out .exit) ≡ bufferOf (now (table .entry)) (now (out .entry))) ⌝ }
+{
+    let mut nodes = [0u16; 1024];
+    let mut notes = [0u16; 1024];
+    let mut places = [0u8; 64];
+    let mut work = [0u16; 4096];
+    trim_with(table, out, &mut nodes, &mut notes, &mut places, &mut work)
+}
