@@ -1,0 +1,105 @@
+-- The loops that search an area and move its words.
+use mathlib.Core.Path.{_≡_, refl, sym, ap, _∙_, subst}
+use mathlib.Core.Bool.{Bool, true, false, not}
+use mathlib.Core.Logic.{_⊎_, inl, inr}
+use mathlib.Core.List.{List}
+use Prim.Native.Nat.{ℕ, _+_, _*_, _-_, _≤_, _<_}
+use native.Mathlib.Omega.{arith}
+use native.Mathlib.Decide.{decLt}
+use lib.ListN.{length, getD, set, length-set}
+use lib.Seq.{getD-set-same, getD-set-other}
+use Rattle.esterel.specs.Reactions.{Reaction}
+use Rattle.esterel.specs.Listing.{before}
+use Rattle.area.specs.Area.{row, rows, Low, Stored, Lowered}
+use Rattle.area.proofs.Rows.{rows-move}
+
+-- ---- the search from the end
+module _ (x : Reaction) (a : List ℕ) (base n j : ℕ) (h : 0 < j) where
+  pub place-step : ((i : ℕ) → j ≤ i → i < n → before x (row a (base + 2 * i)) ≡ true) → before x (row a (base + 2 * (j - 1))) ≡ true
+      → (i : ℕ) → j - 1 ≤ i → i < n → before x (row a (base + 2 * i)) ≡ true
+  place-step f g i b d = go (decLt i j)
+    where
+      go : Dec (i < j) → before x (row a (base + 2 * i)) ≡ true
+      go (yes y) = let e : i ≡ j - 1 = omega arith in ap (λ (z : ℕ). before x (row a (base + 2 * z))) e ∙ g
+      go (no y) = f i (omega arith) d
+
+-- what holds of the last before j
+pub last-is : (j : ℕ) → 0 < j → (P : ℕ → Type 0) → P (j - 1) → (k : ℕ) → j ≡ k + 1 → P k
+last-is j h P p k e = let z : j - 1 ≡ k = omega arith in subst P z p
+
+pub not-not : (b : Bool) → b ≡ not (not b)
+not-not true = refl
+not-not false = refl
+
+-- ---- words moved two places up, from the last on
+pub record Opening (a₀ a : List ℕ) (f t j : ℕ) : Type 0 where
+  pub from : f ≤ j
+  pub to : j ≤ t
+  pub same : length a ≡ length a₀
+  pub low : (i : ℕ) → i < j + 2 → getD a i 0 ≡ getD a₀ i 0
+  pub moved : (i : ℕ) → j ≤ i → i < t → getD a (i + 2) 0 ≡ getD a₀ i 0
+  pub high : (i : ℕ) → t + 2 ≤ i → getD a i 0 ≡ getD a₀ i 0
+
+pub opening-step : (a₀ a : List ℕ) (f t j : ℕ) → Opening a₀ a f t j → f < j → t + 2 ≤ length a₀ → Opening a₀ (set a (j - 1 + 2) (getD a (j - 1) 0)) f t (j - 1)
+opening-step a₀ a f t j o h k =
+    let e = o .same in let g = o .to in
+    record {
+      from = omega arith;
+      to = omega arith;
+      same = length-set a (j - 1 + 2) (getD a (j - 1) 0) ∙ o .same;
+      low = λ i b. getD-set-other a (j - 1 + 2) i (getD a (j - 1) 0) 0 (λ z. omega arith) ∙ o .low i (omega arith);
+      moved = λ i b d. go i b d (decLt i j);
+      high = λ i b. getD-set-other a (j - 1 + 2) i (getD a (j - 1) 0) 0 (λ z. omega arith) ∙ o .high i b;
+    }
+  where
+    go : (i : ℕ) → j - 1 ≤ i → i < t → Dec (i < j) → getD (set a (j - 1 + 2) (getD a (j - 1) 0)) (i + 2) 0 ≡ getD a₀ i 0
+    go i b d (yes y) =
+        let e = o .same in let g = o .to in
+        let z : i ≡ j - 1 = omega arith in
+        ap (λ (x : ℕ). getD (set a (j - 1 + 2) (getD a (j - 1) 0)) (x + 2) 0) z ∙ getD-set-same a (j - 1 + 2) (getD a (j - 1) 0) 0 (omega arith) ∙ o .low (j - 1) (omega arith) ∙ ap (λ (x : ℕ). getD a₀ x 0) (sym z)
+    go i b d (no y) = getD-set-other a (j - 1 + 2) (i + 2) (getD a (j - 1) 0) 0 (λ z. omega arith) ∙ o .moved i (omega arith) d
+
+-- ---- words copied down, from the first on
+pub record Lowering (a₀ a : List ℕ) (t f m j : ℕ) : Type 0 where
+  pub to : j ≤ m
+  pub same : length a ≡ length a₀
+  pub low : (i : ℕ) → i < t → getD a i 0 ≡ getD a₀ i 0
+  pub done : (i : ℕ) → t ≤ i → i < t + j → getD a i 0 ≡ getD a₀ (i + (f - t)) 0
+  pub high : (i : ℕ) → t + j ≤ i → getD a i 0 ≡ getD a₀ i 0
+
+pub lowering-step : (a₀ a : List ℕ) (t f m j : ℕ) → Lowering a₀ a t f m j → j < m → t ≤ f → f + m ≤ length a₀ → Lowering a₀ (set a (t + j) (getD a (f + j) 0)) t f m (j + 1)
+lowering-step a₀ a t f m j o h k n =
+    let e = o .same in
+    record {
+      to = omega arith;
+      same = length-set a (t + j) (getD a (f + j) 0) ∙ o .same;
+      low = λ i b. getD-set-other a (t + j) i (getD a (f + j) 0) 0 (λ z. omega arith) ∙ o .low i b;
+      done = λ i b d. go i b d (decLt i (t + j));
+      high = λ i b. getD-set-other a (t + j) i (getD a (f + j) 0) 0 (λ z. omega arith) ∙ o .high i (omega arith);
+    }
+  where
+    go : (i : ℕ) → t ≤ i → i < t + (j + 1) → Dec (i < t + j) → getD (set a (t + j) (getD a (f + j) 0)) i 0 ≡ getD a₀ (i + (f - t)) 0
+    go i b d (yes y) = getD-set-other a (t + j) i (getD a (f + j) 0) 0 (λ z. omega arith) ∙ o .done i b y
+    go i b d (no y) =
+        let e = o .same in
+        let z : i ≡ t + j = omega arith in
+        let u : f + j ≡ i + (f - t) = omega arith in
+        ap (λ (x : ℕ). getD (set a (t + j) (getD a (f + j) 0)) x 0) z ∙ getD-set-same a (t + j) (getD a (f + j) 0) 0 (omega arith) ∙ o .high (f + j) (omega arith) ∙ ap (λ (x : ℕ). getD a₀ x 0) u
+
+pub lowering-end : (a₀ a : List ℕ) (t f n j : ℕ) → Lowering a₀ a t f (2 * n) j → 2 * n ≤ j → t ≤ f → Lowered a₀ a t f n
+lowering-end a₀ a t f n j o h k =
+    let g = o .to in
+    let e : t + (f - t) ≡ f = omega arith in
+    record { same = o .same; low = o .low; moved = rows-move (f - t) a₀ a t n (λ i b d. o .done i b (omega arith)) ∙ ap (λ (z : ℕ). rows a₀ z n) e }
+
+-- ---- one reaction stored
+pub stored : (a : List ℕ) (q w l : ℕ) → q + 2 ≤ length a → Stored a (set (set a q w) (q + 1) l) q w l
+stored a q w l fits =
+    let e = length-set a q w in
+    record {
+      same = length-set (set a q w) (q + 1) l ∙ length-set a q w;
+      first = getD-set-other (set a q w) (q + 1) q l 0 (λ z. omega arith) ∙ getD-set-same a q w 0 (omega arith);
+      second = getD-set-same (set a q w) (q + 1) l 0 (omega arith);
+      low = λ i h. getD-set-other (set a q w) (q + 1) i l 0 (λ z. omega arith) ∙ getD-set-other a q i w 0 (λ z. omega arith);
+      high = λ i h. getD-set-other (set a q w) (q + 1) i l 0 (λ z. omega arith) ∙ getD-set-other a q i w 0 (λ z. omega arith);
+    }

@@ -1,0 +1,10 @@
+pub mod Capped
+pub mod Nodes
+pub mod Marks
+pub mod Joins
+pub mod Starts
+pub mod Resumes
+pub mod Findings
+pub mod Limits
+pub mod Fills
+pub mod Deliveries

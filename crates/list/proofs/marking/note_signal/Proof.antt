@@ -1,0 +1,52 @@
+-- What was found of the child is written, with one signal more.
+use Prim.Native.Nat.{ℕ, _+_, min}
+use mathlib.Core.Path.{ap, _∙_}
+use Rattle.list.proofs.Marks.{wrote-as}
+use native.Mathlib.Omega.{arith}
+use Rattle.list.proofs.marking.note_signal.Statement.{statement}
+use Rattle.list.proofs.marking.note_signal.Tie as tie
+
+add-first : tie.Need-add-first
+add-first c = omega arith
+
+end-at-requires : tie.Need-end-at-requires
+end-at-requires c κs = omega arith
+
+nest-at-requires : tie.Need-nest-at-requires
+nest-at-requires c κs = omega arith
+
+deeper-requires : tie.Need-deeper-requires
+deeper-requires c κs = omega arith
+
+pauses-at-requires : tie.Need-pauses-at-requires
+pauses-at-requires c κs = omega arith
+
+note-requires : tie.Need-note-requires
+note-requires c κs = let p = c .before .before .before .before .before .before .before .before .before .before .before .before .before .pre in (p, c .before .before .before .before .before .before .before .before .end-at .ensures .1 (omega arith))
+
+same-length : tie.Need-same-length
+same-length c = omega arith
+
+same-length-2 : tie.Need-same-length-2
+same-length-2 c = omega arith
+
+same-length-3 : tie.Need-same-length-3
+same-length-3 c = omega arith
+
+returns : tie.Need-returns
+returns c = wrote-as (c .before .before .before .before .before .before .note .ensures) (c .before .before .before .before .before .before .before .before .before .before .before .before .before .before .before .end-at .ensures .0) (c .before .before .before .before .before .before .before .before .before .before .before .before .deeper .ensures ∙ ap (λ (z : ℕ). min 13 (z + 1)) (c .before .before .before .before .before .before .before .before .before .before .before .before .before .nest-at .ensures)) (c .before .before .before .before .before .before .before .before .before .before .pauses-at .ensures)
+
+pub note-signal-spec : {M : Type 1} → statement M
+note-signal-spec =
+    tie.close
+    (tie.spec
+    add-first
+    end-at-requires
+    nest-at-requires
+    deeper-requires
+    pauses-at-requires
+    note-requires
+    same-length
+    same-length-2
+    same-length-3
+    returns)

@@ -1,0 +1,72 @@
+-- What was found of the two children is written.
+use Prim.Native.Nat.{ℕ, _+_, max}
+use mathlib.Core.Path.{ap, ap₂, _∙_}
+use lib.ListN.{getD}
+use Rattle.sets.specs.Set.{_union_}
+use Rattle.list.specs.Notes.{endIn}
+use Rattle.list.proofs.Marks.{wrote-as}
+use native.Mathlib.Omega.{arith}
+use Rattle.list.proofs.marking.note_two.Statement.{statement}
+use Rattle.list.proofs.marking.note_two.Tie as tie
+
+add-first : tie.Need-add-first
+add-first c = omega arith
+
+end-at-requires : tie.Need-end-at-requires
+end-at-requires c κs = omega arith
+
+end-at-requires-2 : tie.Need-end-at-requires-2
+end-at-requires-2 c κs = omega arith
+
+nest-at-requires : tie.Need-nest-at-requires
+nest-at-requires c κs = omega arith
+
+nest-at-requires-2 : tie.Need-nest-at-requires-2
+nest-at-requires-2 c κs = omega arith
+
+larger-requires : tie.Need-larger-requires
+larger-requires c κs = omega arith
+
+pauses-at-requires : tie.Need-pauses-at-requires
+pauses-at-requires c κs = omega arith
+
+pauses-at-requires-2 : tie.Need-pauses-at-requires-2
+pauses-at-requires-2 c κs = omega arith
+
+note-requires : tie.Need-note-requires
+note-requires c κs = let p = c .before .before .before .before .before .before .before .before .before .before .before .before .before .before .before .before .before .before .before .pre in (p, c .before .before .before .before .before .before .before .before .before .before .before .before .end-at2 .ensures .1 (c .before .before .before .before .before .before .before .before .before .before .before .before .before .before .end-at .ensures .1 (omega arith)))
+
+same-length : tie.Need-same-length
+same-length c = omega arith
+
+same-length-2 : tie.Need-same-length-2
+same-length-2 c = omega arith
+
+same-length-3 : tie.Need-same-length-3
+same-length-3 c = omega arith
+
+returns : tie.Need-returns
+unfolding _union_
+returns c = let s = c .before .before .before .before .before .before .before .before .before .before .before .before .before .before .before .before .before .before .before .before .before .before .before .before .before .before in
+    wrote-as (c .before .before .before .before .before .before .note .ensures)
+    (c .before .before .before .before .before .before .before .before .before .before .before .before .before .before .before .before .before .before .before .end-at2 .ensures .0 ∙ ap (endIn (s .args .ends .now)) (c .before .before .before .before .before .before .before .before .before .before .before .before .before .before .before .before .before .before .before .before .before .end-at .ensures .0))
+    (c .before .before .before .before .before .before .before .before .before .before .before .before .before .before .larger .ensures ∙ ap₂ max (c .before .before .before .before .before .before .before .before .before .before .before .before .before .before .before .before .before .nest-at .ensures) (c .before .before .before .before .before .before .before .before .before .before .before .before .before .before .before .nest-at2 .ensures ∙ ap (λ (z : ℕ). getD (s .args .nests .now) z 0) (c .before .before .before .before .before .before .before .before .before .before .before .before .before .before .before .before .before .before .before .before .before .end-at .ensures .0)))
+    (ap₂ _union_ (c .before .before .before .before .before .before .before .before .before .before .before .before .pauses-at .ensures) (c .before .before .before .before .before .before .before .before .before .before .pauses-at2 .ensures ∙ ap (λ (z : ℕ). getD (s .args .pauses .now) z 0) (c .before .before .before .before .before .before .before .before .before .before .before .before .before .before .before .before .before .before .before .before .before .end-at .ensures .0)))
+
+pub note-two-spec : {M : Type 1} → statement M
+note-two-spec =
+    tie.close
+    (tie.spec
+    add-first
+    end-at-requires
+    end-at-requires-2
+    nest-at-requires
+    nest-at-requires-2
+    larger-requires
+    pauses-at-requires
+    pauses-at-requires-2
+    note-requires
+    same-length
+    same-length-2
+    same-length-3
+    returns)

@@ -1,0 +1,4 @@
+pub mod Capped
+pub mod Notes
+pub mod Answers
+pub mod Buffers
