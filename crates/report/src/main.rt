@@ -1,0 +1,69 @@
+// Reads a table from standard input and prints its node counts before and after trimming, the labels that can ever be
+// reached, and the number of rounds; or the refusal.
+use libc::STDIN_FILENO;
+use libc::STDOUT_FILENO;
+use reach::Reached;
+use table::Checked;
+use trim::Trimmed;
+
+// A word and a number.
+fn print_number(word: &[u8], number: u64) {
+    io::write_all(STDOUT_FILENO, word);
+    io::print_decimal(STDOUT_FILENO, number);
+}
+
+fn print_refused(refusal: u8) {
+    print_number(b"refused ", refusal as u64);
+    io::write_all(STDOUT_FILENO, b"\n");
+}
+
+// The labels of the set, rising.
+fn print_labels(set: u64) {
+    io::write_all(STDOUT_FILENO, b"labels");
+    for label in 0u8..64 {
+        if sets::contains(set, label) {
+            print_number(b" ", label as u64);
+        }
+    }
+    io::write_all(STDOUT_FILENO, b"\n");
+}
+
+fn print_report(before: u16, after: u16, set: u64, rounds: u32) {
+    print_number(b"nodes ", before as u64);
+    print_number(b" ", after as u64);
+    io::write_all(STDOUT_FILENO, b"\n");
+    print_labels(set);
+    print_number(b"rounds ", rounds as u64);
+    io::write_all(STDOUT_FILENO, b"\n");
+}
+
+fn report(table: &[u8]) {
+    let checked = table::check(table);
+    let Checked::Accepted(before) = checked else {
+        print_refused(table::refusal(checked));
+        return;
+    };
+    // Room for the longest table, so that 13 is not given.
+    let mut out = [0u8; 1282];
+    let trimmed = trim::trim(table, &mut out);
+    let reached = reach::reach(table);
+    match trimmed {
+        Trimmed::Refused(refusal) => print_refused(refusal),
+        Trimmed::Accepted(after) => match reached {
+            Reached::Refused(refusal) => print_refused(refusal),
+            Reached::Found {
+                ends: _,
+                labels: _,
+                set,
+                rounds,
+            } => print_report(before, after.nodes, set, rounds),
+        },
+    }
+}
+
+fn main() {
+    // One byte more than the longest table: check refuses it as it would refuse any more.
+    let mut input = [0u8; 1283];
+    let length = io::read_full(STDIN_FILENO, &mut input);
+    report(&input[..length]);
+}
