@@ -1,0 +1,227 @@
+//! Times each operation of the proved library against the plain implementation, on the same
+//! generated tables in one process. Both answers are compared first.
+//!
+//! Each figure is the best of several batches that take turns. Result buffers are not cleared
+//! before a call. A call includes everything that the operation does, the making ready of its
+//! work area too.
+
+use second::library;
+use second::plain::{self, Asked};
+use second::random::{sized_table, Random};
+use second::statement::Statement::{self, *};
+use second::table::write;
+use second::trees::*;
+use std::hint::black_box;
+use std::time::{Duration, Instant};
+
+const BATCHES: usize = 15;
+const BATCH: Duration = Duration::from_millis(8);
+
+/// The tables of one row: their nodes in the mean, and something to say about them.
+struct Row {
+    name: String,
+    tables: Vec<Vec<u8>>,
+}
+
+impl Row {
+    fn nodes(&self) -> f64 {
+        let count = |t: &Vec<u8>| usize::from(t[0] & 15) << 8 | usize::from(t[1]);
+        self.tables.iter().map(count).sum::<usize>() as f64 / self.tables.len() as f64
+    }
+}
+
+/// Nanoseconds for one pass over the tables.
+fn batch(tables: &[Vec<u8>], call: &mut dyn FnMut(&[u8]) -> u32) -> f64 {
+    let begun = Instant::now();
+    let mut passes = 0;
+    while begun.elapsed() < BATCH {
+        for table in tables {
+            black_box(call(black_box(table)));
+        }
+        passes += 1;
+    }
+    begun.elapsed().as_nanos() as f64 / f64::from(passes)
+}
+
+/// Times both sides on a row and prints it. `landed` says whether the library has the operation.
+fn time(
+    operation: &str,
+    row: &Row,
+    landed: bool,
+    library: &mut dyn FnMut(&[u8]) -> u32,
+    plain: &mut dyn FnMut(&[u8]) -> u32,
+) {
+    let mut best = [f64::MAX; 2];
+    for table in &row.tables {
+        assert!(!landed || library(table) == plain(table), "{operation}: different answers");
+    }
+    for _ in 0..BATCHES {
+        best[1] = best[1].min(batch(&row.tables, plain));
+        if landed {
+            best[0] = best[0].min(batch(&row.tables, library));
+        }
+    }
+    let [ours, theirs] = best.map(|ns| ns / row.tables.len() as f64);
+    let nodes = row.nodes();
+    print!("{operation:<6} {:<34} {nodes:>6.0}", row.name);
+    if landed {
+        print!(" {ours:>10.0} {:>8.2}", ours / nodes);
+    } else {
+        print!(" {:>10} {:>8}", "-", "-");
+    }
+    print!(" {theirs:>10.0} {:>8.2}", theirs / nodes);
+    println!("{}", if landed { format!(" {:>7.2}", ours / theirs) } else { String::new() });
+}
+
+fn random_rows(random: &mut Random, tables: usize) -> Vec<Row> {
+    let row = |n: usize| Row {
+        name: format!("{n} nodes, random"),
+        tables: (0..tables).map(|_| sized_table(random, n)).collect(),
+    };
+    [16, 64, 256, 1024].map(row).into()
+}
+
+fn check(row: &Row) {
+    time(
+        "check",
+        row,
+        cfg!(feature = "check"),
+        &mut |table| {
+            let mut nodes = 0;
+            library::check(table, &mut nodes) + nodes
+        },
+        &mut |table| plain::check(table).unwrap_or_else(|refusal| refusal),
+    );
+}
+
+fn reach(row: &Row) {
+    let rounds: u32 = row.tables.iter().map(|t| plain::reach(t).map_or(0, |r| r.rounds)).sum();
+    let rounds = f64::from(rounds) / row.tables.len() as f64;
+    let name = format!("{}, {rounds:.1} rounds", row.name);
+    let folded = |start: u64, r: u64, rounds: u32| (start ^ r.rotate_left(7)) as u32 ^ rounds;
+    time(
+        "reach",
+        &Row { name, tables: row.tables.clone() },
+        cfg!(feature = "reach"),
+        &mut |table| {
+            let (mut ends, mut start, mut r, mut rounds) = (0, 0, 0, 0);
+            library::reach(table, &mut ends, &mut start, &mut r, &mut rounds);
+            folded(start, r, rounds)
+        },
+        &mut |table| {
+            plain::reach(table).map_or(0, |found| folded(found.start, found.r, found.rounds))
+        },
+    );
+}
+
+fn trim(row: &Row) {
+    let (mut out, mut other) = ([0; 1282], [0; 1282]);
+    time(
+        "trim",
+        row,
+        cfg!(feature = "trim"),
+        &mut |table| {
+            let (mut nodes, mut bytes) = (0, 0);
+            library::trim(table, &mut out, &mut nodes, &mut bytes) + nodes
+        },
+        &mut |table| plain::trim(table, &mut other).map_or_else(|refusal| refusal, |t| t.0),
+    );
+}
+
+/// So many signals around a program, each of which the program names.
+fn inside_signals(count: usize, p: Statement) -> Statement {
+    let named = (0..count).fold(p, |p, i| sequence(present(Nothing, Emit(i as u8)), p));
+    (0..count).fold(named, |p, i| Signal(i as u8, p.into()))
+}
+
+/// A program of about n nodes that emits and then stops at pauses; one reaction at the start.
+fn straight(n: usize) -> Statement {
+    parallel(sequence(kept(n - 10 | 1), Pause(1)), sequence(Pause(2), Emit(3)))
+}
+
+/// A program of about n nodes in eight branches that are resumed.
+fn branches(n: usize) -> Statement {
+    let part = |label: u8| sequence(Pause(label), kept(n / 8 - 3 | 1));
+    even((1..=8).map(part).collect(), present)
+}
+
+const START: Asked = Asked { assumed: u32::MAX, mark: 0, labels: 0 };
+const RESUMED: Asked = Asked { assumed: u32::MAX, mark: 1, labels: u64::MAX };
+
+fn accepted(table: &[u8], asked: Asked) -> bool {
+    plain::list(table, asked, [&mut [0; 4 * 64], &mut [0; 64], &mut [0; 8 * 64]]).is_ok()
+}
+
+fn list(row: Row, asked: Asked) {
+    assert!(row.tables.iter().all(|table| accepted(table, asked)), "{} is refused", row.name);
+    let buffers = || ([0_u8; 4 * 64], [0_u8; 64], [0_u8; 8 * 64]);
+    let ((mut o, mut k, mut l), (mut a, mut b, mut c)) = (buffers(), buffers());
+    time(
+        "list",
+        &row,
+        cfg!(feature = "list"),
+        &mut |table| {
+            let mut count = 0;
+            library::list(table, asked, [&mut o, &mut k, &mut l], &mut count) + count
+        },
+        &mut |table| {
+            plain::list(table, asked, [&mut a, &mut b, &mut c]).unwrap_or_else(|refusal| refusal)
+        },
+    );
+}
+
+fn one(name: String, p: Statement) -> Row {
+    Row { name, tables: vec![write(&p)] }
+}
+
+fn listings(rows: Vec<Row>) {
+    for n in [20, 100, 1000] {
+        list(one("start, one reaction".into(), straight(n)), START);
+    }
+    for n in [100, 1000] {
+        list(one("resumed, 8 branches".into(), branches(n)), RESUMED);
+    }
+    for mut row in rows {
+        row.tables.retain(|table| accepted(table, START));
+        row.name += ", start";
+        list(row, START);
+    }
+    for signals in [0, 4, 8, 12] {
+        let around = |p| inside_signals(signals, p);
+        let name = format!("{signals} nested signals");
+        list(one(format!("start, {name}"), around(straight(100 - 5 * signals))), START);
+        list(one(format!("resumed, {name}"), around(branches(100 - 5 * signals))), RESUMED);
+    }
+    for reactions in [1, 4, 16, 63] {
+        let p = resumed_choices(1..=reactions);
+        list(one(format!("resumed, {reactions} reactions"), p), RESUMED);
+    }
+    let product = parallel(resumed_choices(1..=8), resumed_choices(9..=16));
+    list(one("resumed, 8 by 8 reactions".into(), product), RESUMED);
+    for reactions in [4, 16, 64] {
+        let p = choices(reactions);
+        list(one(format!("start, {reactions} by local signals"), p), START);
+    }
+}
+
+fn main() {
+    let tables = std::env::args().nth(1).map_or(Some(16), |word| word.parse().ok());
+    let Some(tables) = tables.filter(|tables| *tables > 0) else {
+        eprintln!("usage: benchmark [TABLES IN A ROW OF RANDOM TABLES]");
+        std::process::exit(2);
+    };
+    println!(
+        "{tables} tables in a row of random tables, best of {BATCHES} batches; \
+         result buffers are not cleared before a call"
+    );
+    println!(
+        "{:<6} {:<34} {:>6} {:>10} {:>8} {:>10} {:>8} {:>7}",
+        "", "", "nodes", "library ns", "per node", "plain ns", "per node", "ratio"
+    );
+    let mut random = Random(30);
+    let rows = random_rows(&mut random, tables);
+    for operation in [check, reach, trim] {
+        rows.iter().for_each(operation);
+    }
+    listings(random_rows(&mut random, tables));
+}

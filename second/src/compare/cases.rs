@@ -1,0 +1,196 @@
+//! The second implementation by itself: cases A to L of document 01, and what must hold of it.
+
+use crate::listing::{signals, subsets, work};
+use crate::reaching::made;
+use crate::trial::{hex, Outcome};
+use crate::Amount;
+use second::codes::{d, rounds, s, Codes, Labels, Qualified::*};
+use second::list::too_many;
+use second::random::{statement, table, Random, TASTES};
+use second::react::{react, Reaction, State, State::*};
+use second::report::report;
+use second::table::{check, length, read, write, MOST_DEPTH, MOST_NODES};
+use second::text::{parse, print};
+use second::trim::trim_program;
+use std::collections::BTreeSet;
+use std::fmt::Debug;
+
+fn same<T: Debug + PartialEq>(what: &str, given: T, wanted: T) -> Outcome {
+    if given == wanted {
+        return Ok(());
+    }
+    Err(format!("{what}: {given:?} where {wanted:?} is right"))
+}
+
+fn reactions(text: &str, state: State, e: u32) -> Vec<(u32, u8, u64)> {
+    react(&parse(text), state, e).into_iter().map(|Reaction { o, k, l }| (o, k, l)).collect()
+}
+
+/// Figure 8's middle program; S0 is I and S1 is O.
+const FIGURE_8: &str = "
+    try exit 1 ; try present S0 then 1:pause ; exit 1 end ; 2:pause ; emit S1 end end ;
+    try present S0 then gotopause 1 ; exit 1 end ; gotopause 2 ; emit S1 end";
+
+const FIGURE_8_TRIMMED: &str = "
+    try exit 1 ; try [1:pause ; exit 1] ; 2:pause ; emit S1 end end ;
+    present S0 then gotopause 1 end ; gotopause 2";
+
+/// Cases A to L. S0 stands for S, S1 for B.
+pub fn lettered(_: Amount) -> Outcome {
+    let none = (Labels::new(), 1);
+    same("A", hex(&write(&parse("nothing"))), "10 01 00 00".into())?;
+    same("A", s(&parse("nothing")), Codes::from([Zero]))?;
+    same("A", rounds(&parse("nothing")), none)?;
+
+    same("B", hex(&write(&parse("1:pause"))), "10 01 10 40".into())?;
+    same("B", rounds(&parse("1:pause")), (Labels::from([1]), 2))?;
+
+    let c = parse("present S0 then exit 7 end || 3:pause || gotopause 4");
+    same("C", s(&c), Codes::from([One(3), One(4), Higher(8)]))?;
+
+    let p = parse("1:pause ; 2:pause || 3:pause ; 4:pause ; exit 6");
+    same("D", d(&Labels::from([1]), &p), Codes::from([One(2)]))?;
+    same("D", d(&Labels::from([3, 4]), &p), Codes::from([One(4), Higher(7)]))?;
+    let all = Codes::from([Zero, One(2), One(4), Higher(7)]);
+    same("D", d(&Labels::from([1, 2, 3, 4]), &p), all)?;
+
+    for e in [0, 1] {
+        let text = "signal S0 in present S0 then emit S0 end end";
+        same("E", reactions(text, Start, e), vec![(0, 0, 0)])?;
+        same("J", reactions("signal S0 in present S0 else emit S0 end end", Start, e), vec![])?;
+    }
+
+    let f = parse("try 1:pause ; exit 1 || 2:pause ; 3:pause end");
+    same("F", rounds(&f), (Labels::from([1, 2, 3]), 3))?;
+    same("F", report(&write(&f)), "nodes 8 8\nlabels 1 2 3\nrounds 3\n".into())?;
+
+    let g = parse("try try exit 1 ; emit S1 || exit 2 end end");
+    same("G", g.nodes(), 7)?;
+    same("G", print(&trim_program(&g)), "try try exit 1 || exit 2 end end".into())?;
+    same("G", react(&g, Start, 2), react(&trim_program(&g), Start, 2))?;
+    same("G", reactions(&print(&g), Start, 2), vec![(0, 0, 0)])?;
+
+    let h = parse(FIGURE_8);
+    same("H", (h.nodes(), trim_program(&h).nodes()), (24, 17))?;
+    same("H", trim_program(&h), parse(FIGURE_8_TRIMMED))?;
+
+    let text = "1:pause ; 2:pause";
+    same("I", reactions(text, Resumed(6), 0), vec![(0, 0, 0), (0, 1, 4)])?;
+
+    same("K", reactions("gotopause 1", Start, 0), vec![(0, 1, 2)])?;
+    same("K", reactions("gotopause 1", Resumed(2), 0), vec![])?;
+
+    let l = parse("loop nothing end");
+    same("L", reactions("loop nothing end", Start, 0), vec![])?;
+    same("L", trim_program(&l), l)
+}
+
+/// Every refusal as the report program prints it, an empty R, and inputs that are too long.
+pub fn reported(_: Amount) -> Outcome {
+    let refused = |what: &str, input: &[u8], refusal: u32| {
+        same(what, report(input), format!("refused {refusal}\n"))
+    };
+    same("A", report(&[0x10, 1, 0, 0]), "nodes 1 1\nlabels\nrounds 1\n".into())?;
+    refused("empty input", &[], 1)?;
+    refused("edition", &[0x20, 1, 0, 0], 2)?;
+    refused("no nodes", &[0x10, 0, 0, 0], 3)?;
+    refused("length", &[0x10, 1, 0], 4)?;
+    refused("padding", &[0x10, 1, 0, 1], 5)?;
+    refused("kind", &[0x10, 1, 0xb0, 0], 6)?;
+    refused("operand", &[0x10, 1, 0x10, 0], 7)?;
+    refused("level", &[0x10, 1, 0x40, 0x40], 9)?;
+    refused("left over", &[0x10, 2, 0, 0, 0], 11)?;
+    let long = [0; 1283];
+    refused("long input, edition", &long, 2)?;
+    refused("long input", &[&[0x10, 1][..], &long].concat(), 4)
+}
+
+/// Reading and writing are inverse; the text of a statement reads back.
+pub fn round_trips(amount: Amount) -> Outcome {
+    let mut random = Random(20);
+    for _ in 0..amount.of(20_000) {
+        let bytes = table(&mut random);
+        let p = read(&bytes).map_err(|refusal| format!("refused {refusal}: {}", hex(&bytes)))?;
+        same("writing what was read", write(&p), bytes.clone())?;
+        same("length", bytes.len(), length(p.nodes()))?;
+        same("count", check(&bytes), Ok(p.nodes()))?;
+        same("text", parse(&print(&p)), p)?;
+    }
+    Ok(())
+}
+
+/// What the papers say of the analysis: the codes of reactions are in s and d, R is a fixed point,
+/// and the rounds do not pass the pauses plus 1.
+pub fn analysis(amount: Amount) -> Outcome {
+    let mut random = Random(21);
+    for _ in 0..amount.of(6_000) {
+        let taste = &TASTES[random.below(4)];
+        let n = random.between(1, 30);
+        let p = statement(&mut random, taste, n, 60);
+        let (r, i) = rounds(&p);
+        same("rounds", i <= p.pauses().count_ones() as usize + 1, true)?;
+        same("R among the pauses", r.iter().all(|label| p.pauses() >> label & 1 == 1), true)?;
+        if work(&p) > 500 {
+            continue;
+        }
+        let labels: Labels = (1..64).filter(|_| random.one_in(2)).collect();
+        let resumed = Resumed(labels.iter().fold(0, |set, label| set | 1 << label));
+        for (state, codes) in [(Start, s(&p)), (resumed, d(&labels, &p))] {
+            if too_many(&p, state, u32::MAX) {
+                continue;
+            }
+            for reaction in react(&p, state, random.next() as u32) {
+                let within = match reaction.k {
+                    0 => codes.contains(&Zero),
+                    1 => (0..64).all(|n| reaction.l >> n & 1 == 0 || codes.contains(&One(n))),
+                    k => codes.contains(&Higher(k)),
+                };
+                same(&format!("{reaction:?} of {}", print(&p)), within, true)?;
+                same("L only with code 1", reaction.l == 0, reaction.k != 1)?;
+            }
+        }
+    }
+    Ok(())
+}
+
+/// Trimmed programs have the same reactions along every run, by the rules alone; a trimmed table
+/// that is not refused is accepted by check.
+pub fn trimmed_runs(amount: Amount) -> Outcome {
+    let mut random = Random(22);
+    for _ in 0..amount.of(6_000) {
+        let p = if random.one_in(4) {
+            made(&mut random)
+        } else {
+            let taste = &TASTES[random.below(4)];
+            let n = random.between(3, 40);
+            statement(&mut random, taste, n, 60)
+        };
+        let q = trim_program(&p);
+        if q.nodes() <= MOST_NODES && q.depth() <= MOST_DEPTH {
+            same("check of a trimmed table", check(&write(&q)), Ok(q.nodes()))?;
+        }
+        if work(&p) > 500 || read(&write(&p)).is_err() {
+            continue;
+        }
+        let mut met = BTreeSet::from([Start]);
+        let mut next = vec![Start];
+        for _ in 0..6 {
+            let mut reached = BTreeSet::new();
+            for &state in &next {
+                for e in subsets(signals(&p).into()).take(8) {
+                    let e = e as u32;
+                    if too_many(&p, state, e) {
+                        continue;
+                    }
+                    let here = react(&p, state, e);
+                    if here != react(&q, state, e) {
+                        return Err(format!("{state:?} under {e:x} of {}", print(&p)));
+                    }
+                    reached.extend(here.iter().filter(|r| r.k == 1).map(|r| Resumed(r.l)));
+                }
+            }
+            next = reached.into_iter().filter(|state| met.insert(*state)).take(5).collect();
+        }
+    }
+    Ok(())
+}

@@ -1,0 +1,326 @@
+//! Comparing list, and the search along common runs of a table and its trimmed table.
+
+use crate::checking::edge_tables;
+use crate::tool::Asked;
+use crate::trial::{Outcome, Seen, Trial};
+use crate::trimming::AMPLE;
+use crate::Amount;
+use second::list::{state, too_many, MOST_REACTIONS};
+use second::random::{any_table, statement, Random, TASTES};
+use second::react::react;
+use second::statement::Statement::{self, *};
+use second::table::{read, write};
+use second::text::parse;
+use second::trees::*;
+use std::collections::BTreeSet;
+
+/// Buffers for 70 reactions.
+const ROOMY: [usize; 3] = [4 * 70, 70, 8 * 70];
+
+/// The signals that a statement uses, also in declarations.
+pub fn signals(p: &Statement) -> u32 {
+    let own = match p {
+        Emit(s) | Signal(s, _) | Present(s, _, _) => 1 << s,
+        _ => 0,
+    };
+    p.children().fold(own, |set, child| set | signals(child))
+}
+
+/// Every subset of a set.
+pub fn subsets(set: u64) -> impl Iterator<Item = u64> {
+    let mut next = Some(0);
+    std::iter::from_fn(move || {
+        let now = next?;
+        next = (now != set).then_some((now.wrapping_sub(set)) & set);
+        Some(now)
+    })
+}
+
+/// About how many lists the second implementation makes, so that tests stay short.
+pub fn work(p: &Statement) -> usize {
+    let below: usize = p.children().map(work).sum();
+    1 + if matches!(p, Signal(_, _)) { 2 * below } else { below }
+}
+
+fn start(assumed: u32) -> Asked {
+    Asked { assumed, mark: 0, labels: u64::MAX }
+}
+
+fn resumed(assumed: u32, labels: u64) -> Asked {
+    Asked { assumed, mark: 1, labels }
+}
+
+/// Every small tree, at the start and at every label set, under every E.
+pub fn small_trees(t: &mut Trial, amount: Amount) -> Outcome {
+    let leaves = [Nothing, Pause(1), Pause(2), Gotopause(1), Emit(0), Exit(1)];
+    for n in 1..=amount.tree_nodes() {
+        each_tree(n, &leaves, &mut |p| {
+            let table = write(p);
+            if read(&table).is_err() {
+                return Ok(());
+            }
+            for e in subsets(signals(p).into()) {
+                t.list(&table, start(e as u32), ROOMY)?;
+                for labels in subsets(p.pauses()) {
+                    t.list(&table, resumed(e as u32, labels), ROOMY)?;
+                }
+            }
+            Ok(())
+        })?;
+    }
+    Ok(())
+}
+
+/// A search for the reason of a 15: whether it is given for an inner list alone.
+fn ask(t: &mut Trial, p: &Statement, asked: Asked) -> Outcome {
+    let state = state(asked.mark, asked.labels);
+    if p.nested_signals() <= 12
+        && too_many(p, state, asked.assumed)
+        && react(p, state, asked.assumed).len() <= MOST_REACTIONS
+    {
+        t.counts.see(Seen::InnerTooMany);
+    }
+    t.list(&write(p), asked, ROOMY).map(|_| ())
+}
+
+/// 64 and 65 reactions, at the table's own list and at an inner one that is needed or not.
+pub fn reactions_edge(t: &mut Trial, _: Amount) -> Outcome {
+    let everything = u32::MAX;
+    for n in [2, 64, 65] {
+        let core = choices(n);
+        let jumped = sequence(Gotopause(63), core.clone());
+        let programs = [
+            core.clone(),
+            Try(parallel(core.clone(), Exit(1)).into()),
+            Try(sequence(Exit(1), core.clone()).into()),
+            Try(sequence(core.clone(), Exit(1)).into()),
+            sequence(core.clone(), parse("loop nothing end")),
+            parse("present S0 then 62:pause end"),
+            Present(0, core.clone().into(), Nothing.into()),
+            Signal(0, Present(0, Nothing.into(), core.clone().into()).into()),
+            Loop(sequence(Pause(62), core.clone()).into()),
+            Loop(parallel(Pause(62), jumped.clone()).into()),
+            sequence(Pause(62), parallel(core.clone(), Pause(61))),
+            parallel(sequence(Pause(62), Loop(core.clone().into())), Pause(61)),
+            Try(sequence(sequence(Pause(62), Exit(1)), core).into()),
+        ];
+        for p in &programs {
+            for assumed in [everything, 0] {
+                ask(t, p, start(assumed))?;
+                for labels in [1 << 62, u64::MAX] {
+                    ask(t, p, resumed(assumed, labels))?;
+                }
+            }
+        }
+    }
+    for (m, n) in [(8, 8), (7, 9), (5, 13), (4, 16), (1, 63), (2, 33), (11, 6), (1, 62)] {
+        let p = parallel(resumed_choices(1..=m), resumed_choices(m + 1..=(m + n).min(63)));
+        let caught = Try(sequence(p.clone(), Exit(1)).into());
+        for labels in [u64::MAX, u64::MAX - 2, !0 << 1, (1 << (m + 1)) - 1, !((1 << (m + 1)) - 1)] {
+            ask(t, &p, resumed(0, labels))?;
+            ask(t, &caught, resumed(0, labels))?;
+            ask(t, &Loop(p.clone().into()), resumed(0, labels))?;
+        }
+    }
+    Ok(())
+}
+
+/// So many signals inside one another, around a statement; the innermost is S0.
+fn inside_signals(count: usize, p: Statement) -> Statement {
+    (0..count).fold(p, |p, i| Signal(i as u8, p.into()))
+}
+
+/// 11 to 14 nested signals, also where a listing does not meet them, and 1,024 nodes.
+pub fn signals_edge(t: &mut Trial, _: Amount) -> Outcome {
+    let body = parse("present S0 then emit S0 || emit S1 else emit S31 ; 1:pause end");
+    for count in 11..=14 {
+        let deep = inside_signals(count, body.clone());
+        let shadowed = (0..count).fold(body.clone(), |p, _| Signal(0, p.into()));
+        let unmet = Try(sequence(Exit(1), inside_signals(count, Nothing)).into());
+        let beside = parallel(inside_signals(count / 2, Nothing), inside_signals(count, Nothing));
+        for p in [deep, shadowed, unmet, beside] {
+            for assumed in [0, u32::MAX] {
+                ask(t, &p, start(assumed))?;
+                ask(t, &p, resumed(assumed, 2))?;
+            }
+        }
+    }
+    for n in 1021..=1024 {
+        let p = sequence(kept(n - 8), parse("loop 1:pause ; emit S1 || 2:pause ; emit S2 end"));
+        for assumed in [0, 1, u32::MAX] {
+            ask(t, &p, start(assumed))?;
+            (0..8).try_for_each(|labels| ask(t, &p, resumed(assumed, labels)))?;
+        }
+    }
+    ask(t, &inside_loops(59, Pause(1)), resumed(0, 2))
+}
+
+/// Every buffer length around the count, in each of the three.
+pub fn buffers(t: &mut Trial, amount: Amount) -> Outcome {
+    let mut random = Random(8);
+    let mut programs: Vec<Statement> =
+        [1, 2, 3, 4, 7, 63, 64, 65].into_iter().map(choices).collect();
+    let taste = &TASTES[3];
+    for _ in 0..amount.of(100) {
+        let n = random.between(1, 20);
+        programs.push(statement(&mut random, taste, n, 60));
+    }
+    for p in &programs {
+        let table = write(p);
+        for asked in [start(u32::MAX), resumed(u32::MAX, u64::MAX)] {
+            let count = t.list(&table, asked, ROOMY)?.map_or(0, |reactions| reactions.len());
+            for (buffer, width) in [4, 1, 8].into_iter().enumerate() {
+                for bytes in (width * count).saturating_sub(width + 1)..=width * (count + 2) + 1 {
+                    let mut lent = ROOMY;
+                    lent[buffer] = bytes;
+                    t.list(&table, asked, lent)?;
+                }
+            }
+            t.list(&table, asked, [4 * count, count, 8 * count])?;
+            t.list(&table, asked, [0; 3])?;
+        }
+    }
+    Ok(())
+}
+
+/// Random programs under every E over a few signals, at the start, at every label set where there
+/// are few labels, else at random ones.
+pub fn random_programs(t: &mut Trial, amount: Amount) -> Outcome {
+    let mut random = Random(9);
+    for _ in 0..amount.of(8_000) {
+        let taste = &TASTES[random.below(4)];
+        let n = random.between(3, 40);
+        let p = statement(&mut random, taste, n, 60);
+        if work(&p) > 2_000 {
+            continue;
+        }
+        let table = write(&p);
+        let noise = random.next();
+        for e in subsets(signals(&p).into()).take(16) {
+            let assumed = e as u32 | noise as u32 & !signals(&p);
+            t.list(&table, start(assumed), ROOMY)?;
+            let states: Vec<u64> = if p.pauses().count_ones() <= 2 {
+                subsets(p.pauses()).collect()
+            } else {
+                (0..5).map(|_| random.next() & (random.next() | p.pauses())).collect()
+            };
+            for labels in states {
+                let mark = random.pick(&[1, 2, 256, 65_536, u32::MAX]);
+                t.list(&table, Asked { assumed, mark, labels }, ROOMY)?;
+            }
+        }
+    }
+    Ok(())
+}
+
+/// A statement with several reactions at the start, of so many levels.
+fn ambiguous(random: &mut Random, levels: usize) -> Statement {
+    if levels == 0 {
+        return match random.below(12) {
+            0 | 1 => Nothing,
+            2 => Exit(1),
+            3 => Gotopause(random.between(1, 6) as u8),
+            _ => Emit(random.below(4) as u8),
+        };
+    }
+    let (p, q) = (ambiguous(random, levels - 1), ambiguous(random, levels - 1));
+    random.pick(&[choice as Joiner, choice, sequence, sequence, parallel])(p, q)
+}
+
+/// A program with many reactions in a state: one for each label, and choices after it.
+fn crowded(random: &mut Random) -> Statement {
+    let blocks = (1..=random.between(2, 20) as u8)
+        .map(|label| {
+            let levels = random.below(4);
+            let after = ambiguous(random, levels);
+            sequence(Pause(label), if random.one_in(2) { Gotopause(label) } else { after })
+        })
+        .collect();
+    let joins = [present, sequence, parallel];
+    let body = uneven(random, blocks, &joins);
+    let before = ambiguous(random, 2);
+    Try(match random.below(4) {
+        0 => Loop(body.into()),
+        1 => sequence(body, Exit(1)),
+        2 => choice(body, before),
+        _ => sequence(before, body),
+    }
+    .into())
+}
+
+/// Crowded programs, at the start and resumed from most of their labels.
+pub fn crowded_programs(t: &mut Trial, amount: Amount) -> Outcome {
+    let mut random = Random(12);
+    for _ in 0..amount.of(20_000) {
+        let assumed = random.next() as u32 | random.next() as u32 | random.next() as u32;
+        let labels = random.next() | random.next();
+        t.list(&write(&crowded(&mut random)), resumed(assumed, labels), ROOMY)?;
+        let levels = random.between(1, 5);
+        let started = Try(ambiguous(&mut random, levels).into());
+        t.list(&write(&started), start(assumed), ROOMY)?;
+    }
+    Ok(())
+}
+
+/// Tables of any sort and size, with buffers of any length.
+pub fn random_tables(t: &mut Trial, amount: Amount) -> Outcome {
+    let mut random = Random(10);
+    for table in edge_tables() {
+        t.list(&table, start(u32::MAX), ROOMY)?;
+        t.list(&table, resumed(u32::MAX, u64::MAX), [0; 3])?;
+    }
+    for _ in 0..amount.of(100_000) {
+        let table = any_table(&mut random);
+        if read(&table).is_ok_and(|p| p.nested_signals() <= 12 && work(&p) > 4_000) {
+            continue;
+        }
+        let asked = Asked {
+            assumed: random.next() as u32 | random.next() as u32,
+            mark: random.below(3) as u32,
+            labels: random.next() & random.next(),
+        };
+        let lent = if random.one_in(3) { ROOMY.map(|b| random.below(b)) } else { ROOMY };
+        t.list(&table, asked, lent)?;
+    }
+    Ok(())
+}
+
+/// Steps a table and its trimmed table along common runs and compares the two listings at every
+/// state met, under every E.
+pub fn runs(t: &mut Trial, amount: Amount) -> Outcome {
+    let mut random = Random(11);
+    for _ in 0..amount.of(10_000) {
+        let taste = &TASTES[random.below(4)];
+        let n = random.between(5, 36);
+        let p = statement(&mut random, taste, n, 60);
+        if work(&p) > 1_000 {
+            continue;
+        }
+        let table = write(&p);
+        let Some(trimmed) = t.trim(&table, AMPLE)? else { continue };
+        let mut met = BTreeSet::new();
+        let mut next = vec![0];
+        for steps in 0..8 {
+            let mut reached = BTreeSet::new();
+            for &labels in &next {
+                for e in subsets(signals(&p).into()).take(16) {
+                    let asked = Asked { assumed: e as u32, mark: steps, labels };
+                    let here = t.list(&table, asked, ROOMY)?;
+                    let there = t.list(&trimmed, asked, ROOMY)?;
+                    let (Some(here), Some(there)) = (here, there) else { continue };
+                    if here != there {
+                        return Err(format!(
+                            "{asked:x?} lists {here:?} and trimmed {there:?}: {p:?}"
+                        ));
+                    }
+                    if steps >= 3 && !here.is_empty() {
+                        t.counts.see(Seen::LongRun);
+                    }
+                    reached.extend(here.iter().filter(|r| r.k == 1).map(|r| r.l));
+                }
+            }
+            next = reached.into_iter().filter(|labels| met.insert(*labels)).take(6).collect();
+        }
+    }
+    Ok(())
+}

@@ -1,0 +1,206 @@
+//! The tests: the second implementation by itself, the proved library against it, and faults that
+//! the comparison has to report.
+//!
+//! second                  the bounded part
+//! second --long           more than ten million calls
+//! second --amount N       N percent of the bounded part's random tests
+//! second --memory         a few calls of the library, for a run under a memory checker
+//! second --write-samples  writes the tables and reports of the texts in samples/
+//!
+//! The last line is `N passed, M failed`; the status is 1 where something failed.
+
+mod cases;
+mod checking;
+mod listing;
+mod reaching;
+mod samples;
+mod tool;
+mod trial;
+mod trimming;
+
+use second::met;
+use std::process::ExitCode;
+use std::time::Instant;
+use tool::{landed, Fault, Library, Operation, Plain, Planted, Second, FAULTS, OPERATIONS};
+use trial::{Outcome, Trial};
+
+/// How much to test, in percent of the bounded part.
+#[derive(Clone, Copy)]
+pub struct Amount(usize);
+
+impl Amount {
+    pub fn of(self, calls: usize) -> usize {
+        (calls * self.0).div_ceil(100)
+    }
+
+    /// Visit every so-manyth case of an exhaustive test.
+    pub fn step(self) -> usize {
+        100_usize.div_ceil(self.0).next_power_of_two()
+    }
+
+    /// The nodes of the largest trees that are all visited.
+    pub fn tree_nodes(self) -> usize {
+        match self.0 {
+            0..=9 => 4,
+            10..=99 => 5,
+            _ => 6,
+        }
+    }
+}
+
+type Group = (&'static str, fn(&mut Trial, Amount) -> Outcome);
+
+fn groups(operation: Operation) -> &'static [Group] {
+    match operation {
+        Operation::Check => &[
+            ("one-node tables", checking::one_node),
+            ("small trees", checking::small_trees),
+            ("edges", checking::edges),
+            ("random tables", checking::random_tables),
+        ],
+        Operation::Reach => &[
+            ("small trees", reaching::small_trees),
+            ("edges", reaching::edges),
+            ("chains, jumps, exits", reaching::made_tables),
+            ("random tables", reaching::random_tables),
+        ],
+        Operation::Trim => &[
+            ("small trees", trimming::small_trees),
+            ("edges, 1,024 nodes and depth 60", trimming::edges),
+            ("every buffer length", trimming::buffers),
+            ("random tables", trimming::random_tables),
+        ],
+        Operation::List => &[
+            ("small trees", listing::small_trees),
+            ("64 and 65 reactions", listing::reactions_edge),
+            ("12 and 13 signals", listing::signals_edge),
+            ("buffer lengths", listing::buffers),
+            ("random programs", listing::random_programs),
+            ("crowded programs", listing::crowded_programs),
+            ("edges and random tables", listing::random_tables),
+        ],
+    }
+}
+
+#[derive(Default)]
+struct Results {
+    passed: u32,
+    failed: u32,
+}
+
+impl Results {
+    fn run(&mut self, name: &str, test: impl FnOnce() -> Outcome) {
+        let begun = Instant::now();
+        let outcome = test();
+        let seconds = begun.elapsed().as_secs_f64();
+        match outcome {
+            Ok(()) => {
+                self.passed += 1;
+                println!("ok     {name} ({seconds:.1} s)");
+            }
+            Err(difference) => {
+                self.failed += 1;
+                println!("FAILED {name} ({seconds:.1} s): {difference}");
+            }
+        }
+    }
+
+    /// Compares a tool with the second implementation, and sees that nothing was left unmet.
+    fn compare(&mut self, t: &mut Trial, name: &str, operations: &[Operation], amount: Amount) {
+        met::clear();
+        for operation in operations {
+            for (group, test) in groups(*operation) {
+                self.run(&format!("{name} {operation:?}: {group}"), || test(t, amount));
+            }
+        }
+        if operations.contains(&Operation::Trim) && operations.contains(&Operation::List) {
+            self.run(&format!("{name}: runs of the trimmed table"), || listing::runs(t, amount));
+        }
+        self.run(&format!("{name}: everything was met"), || {
+            let missing = t.counts.missing(operations);
+            if missing.is_empty() {
+                return Ok(());
+            }
+            Err(format!("never met: {}", missing.join(", ")))
+        });
+        t.counts.print(operations);
+    }
+}
+
+/// Each fault has to be reported by a comparison of its operation.
+fn planted() -> Outcome {
+    for fault in FAULTS {
+        for operation in OPERATIONS {
+            let none_beyond = matches!(operation, Operation::Check | Operation::Reach);
+            if fault == Fault::Beyond && none_beyond {
+                continue;
+            }
+            let tool = Planted::new(fault);
+            let mut t = Trial::new(&tool);
+            let (_, test) = groups(operation).last().unwrap();
+            if test(&mut t, Amount(1)).is_ok() {
+                return Err(format!("the fault {fault:?} in {operation:?} was not reported"));
+            }
+        }
+    }
+    // and without a fault nothing is reported
+    let mut t = Trial::new(&Second);
+    OPERATIONS.iter().try_for_each(|op| groups(*op).last().unwrap().1(&mut t, Amount(1)))
+}
+
+/// A few calls of each operation of the library, for a run under a memory checker.
+fn memory(results: &mut Results) {
+    let mut t = Trial::new(&Library);
+    t.margin = 0;
+    for operation in landed() {
+        let (_, test) = groups(operation).last().unwrap();
+        results.run(&format!("memory of {operation:?}"), || test(&mut t, Amount(1)));
+    }
+}
+
+fn bounded(results: &mut Results, amount: Amount) {
+    results.run("cases A to L", || cases::lettered(amount));
+    results.run("report's lines", || cases::reported(amount));
+    results.run("reading and writing", || cases::round_trips(amount));
+    results.run("codes and reactions", || cases::analysis(amount));
+    results.run("runs of trimmed programs", || cases::trimmed_runs(amount));
+    results.run("samples", samples::samples);
+    results.run("planted faults are reported", planted);
+
+    let mut t = Trial::new(&Plain);
+    results.compare(&mut t, "plain", &OPERATIONS, Amount(amount.0.div_ceil(10)));
+
+    let operations = landed();
+    let mut t = Trial::new(&Library);
+    if !operations.is_empty() {
+        results.compare(&mut t, "library", &operations, amount);
+    }
+    if cfg!(feature = "report") {
+        results.run("the program report", samples::program);
+    }
+    println!("calls of the library compared: {}", t.counts.calls.iter().sum::<u64>());
+}
+
+fn main() -> ExitCode {
+    let arguments: Vec<String> = std::env::args().skip(1).collect();
+    let words: Vec<&str> = arguments.iter().map(String::as_str).collect();
+    let mut results = Results::default();
+    match words[..] {
+        [] => bounded(&mut results, Amount(100)),
+        ["--long"] => bounded(&mut results, Amount(800)),
+        ["--amount", percent] if percent.parse().is_ok_and(|percent: usize| percent > 0) => {
+            bounded(&mut results, Amount(percent.parse().unwrap()))
+        }
+        ["--memory"] => memory(&mut results),
+        ["--write-samples"] => {
+            samples::write_samples();
+            return ExitCode::SUCCESS;
+        }
+        _ => {
+            eprintln!("usage: second [--long | --amount PERCENT | --memory | --write-samples]");
+            return ExitCode::from(2);
+        }
+    }
+    println!("{} passed, {} failed", results.passed, results.failed);
+    ExitCode::from(u8::from(results.failed > 0))
+}

@@ -1,0 +1,89 @@
+//! The samples, and the program report on them and on inputs of every sort.
+
+use crate::checking::edge_tables;
+use crate::trial::{hex, Outcome};
+use second::random::{any_table, Random};
+use second::report::report;
+use second::table::write;
+use second::text::parse;
+use std::io::Write;
+use std::path::{Path, PathBuf};
+use std::process::{Command, Stdio};
+use std::{env, fs};
+
+fn repository() -> PathBuf {
+    Path::new(env!("CARGO_MANIFEST_DIR")).join("..")
+}
+
+/// The names of the files in samples/ with this ending, without it.
+fn named(ending: &str) -> Vec<PathBuf> {
+    let files = fs::read_dir(repository().join("samples")).expect("samples/ is there");
+    let mut names: Vec<PathBuf> = files
+        .map(|file| file.unwrap().path())
+        .filter(|path| path.extension().is_some_and(|e| e == ending))
+        .map(|path| path.with_extension(""))
+        .collect();
+    names.sort();
+    names
+}
+
+/// Each text is the text of its table, and each table has the report that stands beside it.
+pub fn samples() -> Outcome {
+    for name in named("txt") {
+        let text = fs::read_to_string(name.with_extension("txt")).unwrap();
+        if write(&parse(&text)) != fs::read(name.with_extension("table")).unwrap() {
+            return Err(format!("{name:?}: the table is not that of the text"));
+        }
+    }
+    for name in named("table") {
+        let wanted = report(&fs::read(name.with_extension("table")).unwrap());
+        if fs::read_to_string(name.with_extension("report")).unwrap() != wanted {
+            return Err(format!("{name:?}: report prints {wanted}"));
+        }
+    }
+    Ok(())
+}
+
+/// Writes the tables and reports of the texts in samples/.
+pub fn write_samples() {
+    for name in named("txt") {
+        let text = fs::read_to_string(name.with_extension("txt")).unwrap();
+        fs::write(name.with_extension("table"), write(&parse(&text))).unwrap();
+    }
+    for name in named("table") {
+        let input = fs::read(name.with_extension("table")).unwrap();
+        fs::write(name.with_extension("report"), report(&input)).unwrap();
+    }
+}
+
+/// The built program on the samples, on the edges of check, on long inputs and on random ones.
+pub fn program() -> Outcome {
+    let path = env::var("DESKHERON_REPORT")
+        .map_or_else(|_| repository().join("target/bin/report"), PathBuf::from);
+    let mut inputs: Vec<Vec<u8>> =
+        named("table").iter().map(|name| fs::read(name.with_extension("table")).unwrap()).collect();
+    inputs.extend(edge_tables().into_iter().step_by(9));
+    for long in [1281, 1282, 1283, 1284, 5000, 100_000] {
+        for header in [[0x10, 1], [0x14, 0], [0x14, 1], [0x20, 1], [0, 0]] {
+            inputs.push([&header[..], &vec![0; long - 2]].concat());
+        }
+    }
+    let mut random = Random(13);
+    inputs.extend((0..200).map(|_| any_table(&mut random)));
+    for input in inputs {
+        let given = run(&path, &input).map_err(|e| format!("{}: {e}", path.display()))?;
+        let wanted = report(&input);
+        if given != wanted.as_bytes() {
+            let given = String::from_utf8_lossy(&given);
+            return Err(format!("report prints {given} and not {wanted} for {}", hex(&input)));
+        }
+    }
+    Ok(())
+}
+
+fn run(program: &Path, input: &[u8]) -> std::io::Result<Vec<u8>> {
+    let mut child = Command::new(program).stdin(Stdio::piped()).stdout(Stdio::piped()).spawn()?;
+    // a program that has seen enough may stop reading
+    let _ = child.stdin.take().unwrap().write_all(input);
+    Ok(child.wait_with_output()?.stdout)
+}

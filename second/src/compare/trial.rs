@@ -1,0 +1,296 @@
+//! One tool against the second implementation: each call is made on both sides with everything
+//! lent painted alike, and all of it is compared afterwards. What was met is counted.
+
+use crate::tool::{Asked, Operation, ReachCells, Second, Tool};
+use second::list::MOST_REACTIONS;
+use second::met::{count, CASES, RULES};
+use second::react::Reaction;
+use second::table::{bits, read};
+use second::text::print;
+pub use second::trees::Outcome;
+use std::fmt::Debug;
+
+/// The reactions, none where the call was refused.
+pub type Listed = Result<Option<Vec<Reaction>>, String>;
+
+/// The largest node counts of the size classes.
+const SIZES: [usize; 7] = [1, 4, 16, 64, 256, 1023, 1024];
+
+/// What happened on the way that the tables' answers do not show.
+#[derive(Clone, Copy, Debug)]
+pub enum Seen {
+    TrimmedChanged,
+    TrimmedGrew,
+    ManyRounds,
+    FullListing,
+    EmptyListing,
+    InnerTooMany,
+    LongRun,
+}
+
+pub const SEEN: [Seen; 7] = [
+    Seen::TrimmedChanged,
+    Seen::TrimmedGrew,
+    Seen::ManyRounds,
+    Seen::FullListing,
+    Seen::EmptyListing,
+    Seen::InnerTooMany,
+    Seen::LongRun,
+];
+
+#[derive(Default)]
+pub struct Counts {
+    pub calls: [u64; 4],
+    refusals: [[u64; 17]; 4],
+    sizes: [[u64; SIZES.len()]; 4],
+    kinds: [[u64; 11]; 4],
+    seen: [u64; SEEN.len()],
+}
+
+impl Counts {
+    /// Notes the second implementation's answer to a call.
+    fn note(&mut self, operation: Operation, table: &[u8], answer: u32) {
+        let at = operation as usize;
+        self.calls[at] += 1;
+        self.refusals[at][answer as usize] += 1;
+        if answer == 0 {
+            let n = bits(table, 4, 12);
+            self.sizes[at][SIZES.iter().position(|&most| n <= most).unwrap()] += 1;
+            for i in 0..n {
+                self.kinds[at][bits(table, 16 + 10 * i, 4)] += 1;
+            }
+        }
+    }
+
+    pub fn see(&mut self, seen: Seen) {
+        self.seen[seen as usize] += 1;
+    }
+
+    /// What should have been met by these operations and was not.
+    pub fn missing(&self, operations: &[Operation]) -> Vec<String> {
+        let mut missing = Vec::new();
+        let mut want = |count: u64, name: String| {
+            if count == 0 {
+                missing.push(name);
+            }
+        };
+        for &operation in operations {
+            let at = operation as usize;
+            for refusal in refusals(operation) {
+                want(self.refusals[at][refusal], format!("{operation:?} refused {refusal}"));
+            }
+            for (i, most) in SIZES.iter().enumerate() {
+                want(self.sizes[at][i], format!("{operation:?} accepted up to {most} nodes"));
+            }
+            for kind in 0..11 {
+                want(self.kinds[at][kind], format!("{operation:?} accepted kind {kind}"));
+            }
+        }
+        for seen in SEEN {
+            if due(seen, operations) {
+                want(self.seen[seen as usize], format!("{seen:?}"));
+            }
+        }
+        for (by, events) in [(Operation::List, RULES), (Operation::Trim, CASES)] {
+            for event in events.iter().filter(|_| operations.contains(&by)) {
+                want(count(*event), format!("{event:?}"));
+            }
+        }
+        missing
+    }
+
+    /// One line for each operation, and one for the rest.
+    pub fn print(&self, operations: &[Operation]) {
+        for &operation in operations {
+            let at = operation as usize;
+            let refused: Vec<String> = refusals(operation)
+                .map(|refusal| format!("{refusal}: {}", self.refusals[at][refusal]))
+                .collect();
+            println!(
+                "  {operation:?}: {} calls, accepted {}, refused {}",
+                self.calls[at],
+                self.refusals[at][0],
+                refused.join(", ")
+            );
+        }
+        let seen: Vec<String> = SEEN
+            .iter()
+            .filter(|seen| due(**seen, operations))
+            .map(|seen| format!("{seen:?} {}", self.seen[*seen as usize]))
+            .collect();
+        println!("  {}", seen.join(", "));
+    }
+}
+
+/// The refusals that an operation can give.
+fn refusals(operation: Operation) -> impl Iterator<Item = usize> {
+    let own = match operation {
+        Operation::Check | Operation::Reach => 0..0,
+        Operation::Trim => 12..14,
+        Operation::List => 14..17,
+    };
+    (1..12).chain(own)
+}
+
+/// Whether these operations have to bring a sight about.
+fn due(seen: Seen, operations: &[Operation]) -> bool {
+    let needed: &[Operation] = match seen {
+        Seen::TrimmedChanged | Seen::TrimmedGrew => &[Operation::Trim],
+        Seen::ManyRounds => &[Operation::Reach],
+        Seen::FullListing | Seen::EmptyListing | Seen::InnerTooMany => &[Operation::List],
+        Seen::LongRun => &[Operation::Trim, Operation::List],
+    };
+    needed.iter().all(|operation| operations.contains(operation))
+}
+
+/// Bytes painted so that no two neighbours are alike, a margin on both sides of what is lent.
+#[derive(Debug, PartialEq)]
+pub struct Painted {
+    bytes: Vec<u8>,
+    margin: usize,
+}
+
+impl Painted {
+    fn lend(&mut self) -> &mut [u8] {
+        let end = self.bytes.len() - self.margin;
+        &mut self.bytes[self.margin..end]
+    }
+}
+
+fn painted(lent: usize, margin: usize, paint: u8) -> Painted {
+    let bytes = (0..lent + 2 * margin).map(|i| paint.wrapping_add((29 * i) as u8)).collect();
+    Painted { bytes, margin }
+}
+
+pub struct Trial<'a> {
+    pub tool: &'a dyn Tool,
+    pub counts: Counts,
+    /// Painted bytes on both sides of what is lent; none under a memory checker, which then sees
+    /// every access beside it.
+    pub margin: usize,
+    paint: u8,
+}
+
+impl Trial<'_> {
+    pub fn new(tool: &dyn Tool) -> Trial<'_> {
+        Trial { tool, counts: Counts::default(), margin: 8, paint: 1 }
+    }
+
+    fn next_paint(&mut self) -> u8 {
+        self.paint = self.paint.wrapping_mul(5).wrapping_add(3);
+        self.paint
+    }
+
+    pub fn check(&mut self, table: &[u8]) -> Outcome {
+        let paint = u32::from(self.next_paint()) * 0x0101_0101;
+        let ask = |tool: &dyn Tool, table: &[u8]| {
+            let mut nodes = [paint; 3];
+            (tool.check(table, &mut nodes[1]), nodes)
+        };
+        self.compare(Operation::Check, table, ask, String::new).map(|_| ())
+    }
+
+    pub fn reach(&mut self, table: &[u8]) -> Outcome {
+        let paint = u64::from(self.next_paint()) * 0x0101_0101_0101_0101;
+        let painted = ReachCells {
+            start_ends: paint as u8,
+            start_labels: paint,
+            reached: paint,
+            rounds: paint as u32,
+        };
+        let ask = |tool: &dyn Tool, table: &[u8]| {
+            let mut cells = [painted; 3];
+            (tool.reach(table, &mut cells[1]), cells)
+        };
+        let (answer, cells) = self.compare(Operation::Reach, table, ask, String::new)?;
+        if answer == 0 && cells[1].rounds > 20 {
+            self.counts.see(Seen::ManyRounds);
+        }
+        Ok(())
+    }
+
+    /// Trims into a buffer of so many bytes; the trimmed table where it is accepted.
+    pub fn trim(&mut self, table: &[u8], buffer: usize) -> Result<Option<Vec<u8>>, String> {
+        let (paint, margin) = (self.next_paint(), self.margin);
+        let ask = |tool: &dyn Tool, table: &[u8]| {
+            let mut out = painted(buffer, margin, paint);
+            let (mut nodes, mut bytes) = ([u32::from(paint); 3], [usize::from(paint); 3]);
+            let answer = tool.trim(table, out.lend(), &mut nodes[1], &mut bytes[1]);
+            (answer, (nodes, bytes, out))
+        };
+        let more = || format!("buffer of {buffer} bytes");
+        let (answer, (nodes, bytes, mut out)) = self.compare(Operation::Trim, table, ask, more)?;
+        if answer != 0 {
+            return Ok(None);
+        }
+        let trimmed = out.lend()[..bytes[1]].to_vec();
+        if nodes[1] as usize > bits(table, 4, 12) {
+            self.counts.see(Seen::TrimmedGrew);
+        }
+        if trimmed != table {
+            self.counts.see(Seen::TrimmedChanged);
+        }
+        Ok(Some(trimmed))
+    }
+
+    /// Lists into buffers of so many bytes; the reactions where it is accepted.
+    pub fn list(&mut self, table: &[u8], asked: Asked, lent: [usize; 3]) -> Listed {
+        let (paint, margin) = (self.next_paint(), self.margin);
+        let ask = |tool: &dyn Tool, table: &[u8]| {
+            let [mut o, mut k, mut l] = lent.map(|bytes| painted(bytes, margin, paint));
+            let mut count = [u32::from(paint); 3];
+            let answer = tool.list(table, asked, [o.lend(), k.lend(), l.lend()], &mut count[1]);
+            (answer, (count, [o, k, l]))
+        };
+        let more = || format!("{asked:x?}, bytes lent {lent:?}");
+        let (answer, (count, [mut o, mut k, mut l])) =
+            self.compare(Operation::List, table, ask, more)?;
+        if answer != 0 {
+            return Ok(None);
+        }
+        let count = count[1] as usize;
+        if count == 0 {
+            self.counts.see(Seen::EmptyListing);
+        }
+        if count == MOST_REACTIONS {
+            self.counts.see(Seen::FullListing);
+        }
+        let places = o.lend().chunks_exact(4).zip(k.lend()).zip(l.lend().chunks_exact(8));
+        let reaction = |((o, k), l): ((&[u8], &mut u8), &[u8])| Reaction {
+            o: u32::from_be_bytes(o.try_into().unwrap()),
+            k: *k,
+            l: u64::from_be_bytes(l.try_into().unwrap()),
+        };
+        Ok(Some(places.take(count).map(reaction).collect()))
+    }
+
+    /// Asks both sides, each with a table of its own, and compares what came back: 0 or the
+    /// refusal, and everything lent.
+    fn compare<T: Debug + PartialEq>(
+        &mut self,
+        operation: Operation,
+        table: &[u8],
+        ask: impl Fn(&dyn Tool, &[u8]) -> (u32, T),
+        more: impl Fn() -> String,
+    ) -> Result<(u32, T), String> {
+        let lent = table.to_vec();
+        let wanted = ask(&Second, table);
+        let given = ask(self.tool, &lent);
+        self.counts.note(operation, table, wanted.0);
+        if given == wanted && lent == table {
+            return Ok(wanted);
+        }
+        let statement = read(table).map_or_else(|r| format!("refused {r}"), |p| print(&p));
+        let changed = if lent == table { "" } else { "\n  and the table was changed" };
+        Err(format!(
+            "{operation:?} differs at table (hex) {}\n  {statement}\n  {}\n  wanted {wanted:02x?}\n  \
+             given  {given:02x?}{changed}",
+            hex(table),
+            more(),
+        ))
+    }
+}
+
+pub fn hex(bytes: &[u8]) -> String {
+    bytes.iter().map(|byte| format!("{byte:02x}")).collect::<Vec<_>>().join(" ")
+}
