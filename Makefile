@@ -8,49 +8,44 @@
 SHELL := /bin/bash -o pipefail
 MAKEFLAGS += --no-print-directory
 .NOTPARALLEL:
-.PHONY: all test long speed tools library report second bench compared memory shipped
-
-# What there is by now: the library's operations, the program report, the bench program.
-OPERATIONS := check reach trim list
-LANDED := check reach trim list
-REPORT := $(if $(wildcard crates/report),target/bin/report)
-BENCH := $(if $(filter-out $(LANDED),$(OPERATIONS)),,target/bench/bench)
-
-ifneq ($(wildcard crates/deskheron),)
-$(if $(LANDED),,$(error crates/deskheron exports no operation that the tests know))
-endif
+.PHONY: all test long speed tools library report second bench compared memory stack shipped
 
 BEGUN := $(shell date +%s)
-CARGO := CARGO_TARGET_DIR=target/second cargo build --quiet --offline --locked \
-	--manifest-path second/Cargo.toml --features "$(LANDED) $(if $(REPORT),report)"
+CARGO := CARGO_TARGET_DIR=target/second cargo build --quiet --offline --locked --manifest-path second/Cargo.toml
 SECOND := target/second/release/second
+BENCH := target/bench/bench
+# KiB of stack that an entry takes at most, as docs/c-interface.md says.
+STACK := 112
 
-all: tools library report second bench
+all: tools report library second bench
 	@rt check
-	$(if $(REPORT),$(REPORT) < samples/lamp.table)
+	target/bin/report < samples/lamp.table
 
 # rt ci clears target/ first, so the tests come before it. The time goes before its last line.
-test: compared memory shipped
+test: compared memory stack shipped
 	@rt ci | awk '{ if (NR > 1) print last; last = $$0; fflush() } \
 		END { "date +%s" | getline now; print "all of it took " now - $(BEGUN) " s"; print last }'
 
 # The library against the second implementation.
-compared: tools library report second
+compared: tools report library second
 	@$(SECOND)
 	@echo "built and compared in $$(($$(date +%s) - $(BEGUN))) s"
 
-# The library's entries under a memory checker.
+# The library's entries under a memory checker, with twice the stack that they are said to take.
 memory: tools library second
-	$(if $(LANDED),@if command -v valgrind > /dev/null; then \
-		valgrind --quiet --error-exitcode=1 $(SECOND) --memory; \
-	else echo "valgrind is missing: the memory of the library's entries was not checked"; fi)
+	@command -v valgrind > /dev/null || { echo "valgrind is missing; README.md says what is needed"; exit 1; }
+	@ulimit -s $$((2 * $(STACK))) && valgrind --quiet --error-exitcode=1 $(SECOND) --memory
+
+# The stack that they take.
+stack: tools library bench
+	@target/bench/stack $(STACK)
 
 # The bench program on its own tables, and its status for what it cannot read.
 shipped: tools library bench
-	$(if $(BENCH),@$(BENCH) | diff bench/shipped.out - && echo "bench prints bench/shipped.out")
-	$(if $(BENCH),@! $(BENCH) samples/cut.table > target/bench/cut && grep -q 'refused 4' target/bench/cut)
+	@$(BENCH) | diff bench/shipped.out - && echo "bench prints bench/shipped.out"
+	@! $(BENCH) samples/cut.table > target/bench/cut && grep -q 'refused 4' target/bench/cut
 
-long: tools library report second
+long: tools report library second
 	@$(SECOND) --long
 
 speed: tools library
@@ -63,14 +58,17 @@ tools:
 	done
 
 library:
-	$(if $(LANDED),@rt staticlib deskheron)
+	@rt staticlib deskheron
 
 report:
-	$(if $(REPORT),@rt check report)
+	@rt check report
 
 second:
 	@$(CARGO) --release
 
 bench:
-	$(if $(BENCH),@mkdir -p target/bench && gcc -std=c11 -O2 -Wall -Wextra -Werror -Iinclude \
-		bench/bench.c target/staticlib/libdeskheron.a -o $(BENCH))
+	@mkdir -p target/bench
+	@for program in bench stack; do \
+		gcc -std=c11 -O2 -Wall -Wextra -Werror -Iinclude bench/$$program.c target/staticlib/libdeskheron.a \
+			-o target/bench/$$program || exit 1; \
+	done

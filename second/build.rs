@@ -1,14 +1,9 @@
-//! Links the proved static library where a feature asks for one of its operations. Its folder is
-//! DESKHERON_LIB, or target/staticlib of the repository.
+//! Links the proved static library. Its folder is DESKHERON_LIB, or target/staticlib of the repository.
 
 use std::env;
 
 fn main() {
     println!("cargo:rerun-if-env-changed=DESKHERON_LIB");
-    let wanted = ["CHECK", "REACH", "TRIM", "LIST"];
-    if !wanted.iter().any(|name| env::var_os(format!("CARGO_FEATURE_{name}")).is_some()) {
-        return;
-    }
     let folder = env::var("DESKHERON_LIB")
         .unwrap_or_else(|_| format!("{}/../target/staticlib", env!("CARGO_MANIFEST_DIR")));
     println!("cargo:rerun-if-changed={folder}/libdeskheron.a");

@@ -1,11 +1,7 @@
-//! The proved library through its C interface, as include/deskheron.h declares it. An operation
-//! that the library has not yet is no feature of the build, and must not be called.
-
-#![allow(unused_variables)]
+//! The proved library through its C interface, as include/deskheron.h declares it.
 
 use crate::plain::Asked;
 
-#[allow(dead_code)]
 extern "C" {
     fn deskheron_check(table: *const u8, table_len: usize, nodes: *mut u32) -> u32;
     fn deskheron_reach(
@@ -41,7 +37,6 @@ extern "C" {
 }
 
 /// A length of 0 may come with any pointer, so it comes with the worst.
-#[allow(dead_code)]
 fn pointer(lent: &[u8]) -> *const u8 {
     if lent.is_empty() {
         return std::ptr::null();
@@ -49,7 +44,6 @@ fn pointer(lent: &[u8]) -> *const u8 {
     lent.as_ptr()
 }
 
-#[allow(dead_code)]
 fn pointer_mut(lent: &mut [u8]) -> *mut u8 {
     if lent.is_empty() {
         return std::ptr::null_mut();
@@ -58,10 +52,7 @@ fn pointer_mut(lent: &mut [u8]) -> *mut u8 {
 }
 
 pub fn check(table: &[u8], nodes: &mut u32) -> u32 {
-    #[cfg(feature = "check")]
-    return unsafe { deskheron_check(pointer(table), table.len(), nodes) };
-    #[cfg(not(feature = "check"))]
-    unreachable!("check has not landed")
+    unsafe { deskheron_check(pointer(table), table.len(), nodes) }
 }
 
 pub fn reach(
@@ -71,46 +62,22 @@ pub fn reach(
     reached: &mut u64,
     rounds: &mut u32,
 ) -> u32 {
-    #[cfg(feature = "reach")]
-    return unsafe {
-        let (bytes, len) = (pointer(table), table.len());
-        deskheron_reach(bytes, len, start_ends, start_labels, reached, rounds)
-    };
-    #[cfg(not(feature = "reach"))]
-    unreachable!("reach has not landed")
+    let (bytes, len) = (pointer(table), table.len());
+    unsafe { deskheron_reach(bytes, len, start_ends, start_labels, reached, rounds) }
 }
 
 pub fn trim(table: &[u8], out: &mut [u8], nodes: &mut u32, bytes: &mut usize) -> u32 {
-    #[cfg(feature = "trim")]
-    return unsafe {
-        let (out, out_len) = (pointer_mut(out), out.len());
-        deskheron_trim(pointer(table), table.len(), out, out_len, nodes, bytes)
-    };
-    #[cfg(not(feature = "trim"))]
-    unreachable!("trim has not landed")
+    let (out, out_len) = (pointer_mut(out), out.len());
+    unsafe { deskheron_trim(pointer(table), table.len(), out, out_len, nodes, bytes) }
 }
 
 pub fn list(table: &[u8], asked: Asked, lent: [&mut [u8]; 3], count: &mut u32) -> u32 {
     let Asked { assumed, mark, labels } = asked;
     let [o, k, l] = lent;
     let [o_len, k_len, l_len] = [o.len(), k.len(), l.len()];
-    #[cfg(feature = "list")]
-    return unsafe {
-        deskheron_list(
-            pointer(table),
-            table.len(),
-            assumed,
-            mark,
-            labels,
-            pointer_mut(o),
-            o_len,
-            pointer_mut(k),
-            k_len,
-            pointer_mut(l),
-            l_len,
-            count,
-        )
-    };
-    #[cfg(not(feature = "list"))]
-    unreachable!("list has not landed")
+    let [o, k, l] = [o, k, l].map(pointer_mut);
+    let (bytes, len) = (pointer(table), table.len());
+    unsafe {
+        deskheron_list(bytes, len, assumed, mark, labels, o, o_len, k, k_len, l, l_len, count)
+    }
 }

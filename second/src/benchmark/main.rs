@@ -43,34 +43,26 @@ fn batch(tables: &[Vec<u8>], call: &mut dyn FnMut(&[u8]) -> u32) -> f64 {
     begun.elapsed().as_nanos() as f64 / f64::from(passes)
 }
 
-/// Times both sides on a row and prints it. `landed` says whether the library has the operation.
+/// Times both sides on a row and prints it.
 fn time(
     operation: &str,
     row: &Row,
-    landed: bool,
     library: &mut dyn FnMut(&[u8]) -> u32,
     plain: &mut dyn FnMut(&[u8]) -> u32,
 ) {
     let mut best = [f64::MAX; 2];
     for table in &row.tables {
-        assert!(!landed || library(table) == plain(table), "{operation}: different answers");
+        assert!(library(table) == plain(table), "{operation}: different answers");
     }
     for _ in 0..BATCHES {
+        best[0] = best[0].min(batch(&row.tables, library));
         best[1] = best[1].min(batch(&row.tables, plain));
-        if landed {
-            best[0] = best[0].min(batch(&row.tables, library));
-        }
     }
     let [ours, theirs] = best.map(|ns| ns / row.tables.len() as f64);
     let nodes = row.nodes();
     print!("{operation:<6} {:<34} {nodes:>6.0}", row.name);
-    if landed {
-        print!(" {ours:>10.0} {:>8.2}", ours / nodes);
-    } else {
-        print!(" {:>10} {:>8}", "-", "-");
-    }
-    print!(" {theirs:>10.0} {:>8.2}", theirs / nodes);
-    println!("{}", if landed { format!(" {:>7.2}", ours / theirs) } else { String::new() });
+    print!(" {ours:>10.0} {:>8.2} {theirs:>10.0} {:>8.2}", ours / nodes, theirs / nodes);
+    println!(" {:>7.2}", ours / theirs);
 }
 
 fn random_rows(random: &mut Random, tables: usize) -> Vec<Row> {
@@ -85,7 +77,6 @@ fn check(row: &Row) {
     time(
         "check",
         row,
-        cfg!(feature = "check"),
         &mut |table| {
             let mut nodes = 0;
             library::check(table, &mut nodes) + nodes
@@ -102,7 +93,6 @@ fn reach(row: &Row) {
     time(
         "reach",
         &Row { name, tables: row.tables.clone() },
-        cfg!(feature = "reach"),
         &mut |table| {
             let (mut ends, mut start, mut r, mut rounds) = (0, 0, 0, 0);
             library::reach(table, &mut ends, &mut start, &mut r, &mut rounds);
@@ -119,7 +109,6 @@ fn trim(row: &Row) {
     time(
         "trim",
         row,
-        cfg!(feature = "trim"),
         &mut |table| {
             let (mut nodes, mut bytes) = (0, 0);
             library::trim(table, &mut out, &mut nodes, &mut bytes) + nodes
@@ -159,7 +148,6 @@ fn list(row: Row, asked: Asked) {
     time(
         "list",
         &row,
-        cfg!(feature = "list"),
         &mut |table| {
             let mut count = 0;
             library::list(table, asked, [&mut o, &mut k, &mut l], &mut count) + count

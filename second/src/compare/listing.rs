@@ -155,6 +155,19 @@ pub fn signals_edge(t: &mut Trial, _: Amount) -> Outcome {
     ask(t, &inside_loops(59, Pause(1)), resumed(0, 2))
 }
 
+/// Tables of depth 60 with lists that need list's largest area: the most stack that list can use.
+pub fn largest_stack(t: &mut Trial, _: Amount) -> Outcome {
+    let crowd = inside_signals(4, sequence(Pause(62), choices(64)));
+    for join in [present, sequence, parallel] {
+        let bottom = join(Pause(60), Pause(61));
+        let chain = (0..57).fold(bottom, |p, _| Try(p.into()));
+        let table = write(&parallel(crowd.clone(), chain));
+        t.list(&table, start(1), ROOMY)?;
+        t.list(&table, resumed(1, u64::MAX), ROOMY)?;
+    }
+    Ok(())
+}
+
 /// Every buffer length around the count, in each of the three.
 pub fn buffers(t: &mut Trial, amount: Amount) -> Outcome {
     let mut random = Random(8);

@@ -21,7 +21,7 @@ mod trimming;
 use second::met;
 use std::process::ExitCode;
 use std::time::Instant;
-use tool::{landed, Fault, Library, Operation, Plain, Planted, Second, FAULTS, OPERATIONS};
+use tool::{Fault, Library, Operation, Plain, Planted, Second, FAULTS, OPERATIONS};
 use trial::{Outcome, Trial};
 
 /// How much to test, in percent of the bounded part.
@@ -74,6 +74,7 @@ fn groups(operation: Operation) -> &'static [Group] {
             ("small trees", listing::small_trees),
             ("64 and 65 reactions", listing::reactions_edge),
             ("12 and 13 signals", listing::signals_edge),
+            ("the largest stack", listing::largest_stack),
             ("buffer lengths", listing::buffers),
             ("random programs", listing::random_programs),
             ("crowded programs", listing::crowded_programs),
@@ -148,11 +149,13 @@ fn planted() -> Outcome {
     OPERATIONS.iter().try_for_each(|op| groups(*op).last().unwrap().1(&mut t, Amount(1)))
 }
 
-/// A few calls of each operation of the library, for a run under a memory checker.
+/// A few calls of each operation of the library, and those of the largest stack, for a run under a
+/// memory checker.
 fn memory(results: &mut Results) {
     let mut t = Trial::new(&Library);
     t.margin = 0;
-    for operation in landed() {
+    results.run("memory of the largest stack", || listing::largest_stack(&mut t, Amount(1)));
+    for operation in OPERATIONS {
         let (_, test) = groups(operation).last().unwrap();
         results.run(&format!("memory of {operation:?}"), || test(&mut t, Amount(1)));
     }
@@ -170,14 +173,9 @@ fn bounded(results: &mut Results, amount: Amount) {
     let mut t = Trial::new(&Plain);
     results.compare(&mut t, "plain", &OPERATIONS, Amount(amount.0.div_ceil(10)));
 
-    let operations = landed();
     let mut t = Trial::new(&Library);
-    if !operations.is_empty() {
-        results.compare(&mut t, "library", &operations, amount);
-    }
-    if cfg!(feature = "report") {
-        results.run("the program report", samples::program);
-    }
+    results.compare(&mut t, "library", &OPERATIONS, amount);
+    results.run("the program report", samples::program);
     println!("calls of the library compared: {}", t.counts.calls.iter().sum::<u64>());
 }
 

@@ -110,17 +110,6 @@ impl Tool for Plain {
     }
 }
 
-/// The operations that the proved library has by now.
-pub fn landed() -> Vec<Operation> {
-    let features = [
-        (cfg!(feature = "check"), Check),
-        (cfg!(feature = "reach"), Reach),
-        (cfg!(feature = "trim"), Trim),
-        (cfg!(feature = "list"), List),
-    ];
-    features.into_iter().filter(|f| f.0).map(|f| f.1).collect()
-}
-
 /// The proved library.
 pub struct Library;
 
