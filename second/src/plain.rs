@@ -136,15 +136,15 @@ pub fn check(table: &[u8]) -> Result<u32, u32> {
 /// The decoded nodes; `second` is the place of a second child.
 struct Nodes {
     n: usize,
-    node: [u16; 1024],
-    second: [u16; 1024],
+    node: Vec<u16>,
+    second: Vec<u16>,
 }
 
 fn decode(table: &[u8]) -> Result<Nodes, u32> {
-    let mut nodes = Nodes { n: 0, node: [0; 1024], second: [0; 1024] };
-    let Nodes { node, second, .. } = &mut nodes;
-    nodes.n = walk(table, |i, x| node[i] = x, |i, q| second[i] = q as u16)?;
-    Ok(nodes)
+    let n = header(table)?;
+    let (mut node, mut second) = (vec![0; n], vec![0; n]);
+    walk(table, |i, x| node[i] = x, |i, q| second[i] = q as u16)?;
+    Ok(Nodes { n, node, second })
 }
 
 /// A set of codes, bit k for code k, and the labels of code 1.
