@@ -1,6 +1,6 @@
 -- Cutting fields out of bytes, over every width: a field that lies within two bytes is a shift and a remainder of their word,
 -- and the bits behind the last field are a remainder of the last byte. From it the header, the nodes and the padding.
-use mathlib.Core.Path.{_≡_, refl, sym, ap, _∙_}
+use mathlib.Core.Path.{_≡_, refl, sym, ap, _∙_, subst}
 use mathlib.Core.List.{List, [], _∷_, _++_, append-assoc, append-nil}
 use Prim.Native.Nat.{ℕ, zero, suc, _+_, _-_, _*_, _/_, _%_, _^_, _≤_, _<_}
 use native.Mathlib.Nat.{div-one, mod-eq-of-lt, lt-of-lt-of-le}
@@ -8,12 +8,12 @@ use native.Mathlib.Numerals.{add-one}
 use native.Mathlib.Omega.{arith}
 use lib.Bits.{bitAnd, and-mask, bitOr, or-shifted}
 use lib.Dec.{lit≤}
-use lib.ListN.{length, getD, take, drop, length-take, length-append, length-drop, set}
+use lib.ListN.{length, getD, take, drop, length-take, length-append, length-drop, set, length-set}
 use lib.Pow.{shl-exact, pow-mono}
-use lib.Seq.{drop-cons, drop-drop, drop-length, drop-nil, drop-at, take-at, set-at, length-take-le, append-snoc, take-suc}
+use lib.Seq.{drop-cons, drop-drop, drop-length, drop-nil, drop-at, take-at, set-at, length-take-le, append-snoc, take-suc, take-all}
 use Rattle.table.specs.Bits.{bits, number, bitsOf, Below}
 use Rattle.table.specs.Reading.{lengthOf, editionOf, countOf, paddingOf, nodesFrom, nodesOf}
-use Rattle.table.specs.Loading.{wordAt}
+use Rattle.table.specs.Loading.{wordAt, Front, Cut}
 use Rattle.table.proofs.Bits.{length-bits, bits-split, bits-append, number-bits, number-below, below-cons, below-bitsOf, below-drop, below-take}
 
 -- ---- Words
@@ -124,15 +124,21 @@ pub getD-nodesOf : (t : List ℕ) (n i : ℕ) → i < n → getD (nodesOf t n) i
 unfolding nodesOf
 getD-nodesOf t n i h = getD-nodesFrom n i (drop 16 (bitsOf t)) h ∙ ap (λ (l : List ℕ). number (take 10 l)) (drop-drop (10 * i) 16 (bitsOf t))
 
--- node i lies in the word at byte 2 + 10 i / 8
-pub cut-node : (t : List ℕ) (n i : ℕ) → Below 256 t → length t ≡ lengthOf n → i < n
-    → getD (nodesOf t n) i 0 ≡ wordAt t (2 + 10 * i / 8) / 2 ^ (6 - 10 * i % 8) % 1024
-unfolding lengthOf
-cut-node t n i f e h =
-    let r : ℕ = 10 * i % 8 in
-    let place : 16 + 10 * i ≡ 8 * (2 + 10 * i / 8) + r = omega arith in
-    getD-nodesOf t n i h ∙ ap (λ (k : ℕ). number (take 10 (drop k (bitsOf t)))) place
-    ∙ cut-field t (2 + 10 * i / 8) r 10 (6 - r) f (omega arith) (omega arith)
+-- node i, where it lies in the word at byte k before v bits
+pub cut-node : (t : List ℕ) (i k v : ℕ) → Below 256 t → k + 1 < length t → v ≤ 6 → 16 + 10 * i ≡ 8 * k + (6 - v)
+    → getD (nodesOf t (i + 1)) i 0 ≡ wordAt t k / 2 ^ v % 1024
+cut-node t i k v f h b place =
+    getD-nodesOf t (i + 1) i (omega arith) ∙ ap (λ (p : ℕ). number (take 10 (drop p (bitsOf t)))) place ∙ cut-field t k (6 - v) 10 v f h (omega arith)
+
+-- the first i of n nodes
+take-nodesOf : (t : List ℕ) (i n : ℕ) → i ≤ n → take i (nodesOf t n) ≡ nodesOf t i
+unfolding nodesOf nodesFrom
+take-nodesOf t i n h = go i n (drop 16 (bitsOf t)) h
+  where
+    go : (i n : ℕ) (l : List ℕ) → i ≤ n → take i (nodesFrom n l) ≡ nodesFrom i l
+    go zero n l h = refl
+    go (suc i) zero l h = absurd (omega arith)
+    go (suc i) (suc n) l h = ap (λ (m : List ℕ). number (take 10 l) ∷ m) (go i n (drop 10 l) (omega arith))
 
 -- every node has ten bits
 pub below-nodesOf : (t : List ℕ) (n : ℕ) → Below 1024 (nodesOf t n)
@@ -148,16 +154,6 @@ below-nodesOf t n = go n (drop 16 (bitsOf t)) (below-drop 2 16 (bitsOf t) (below
     go zero l f i = omega arith
     go (suc n) l f i = below-cons 1024 (number (take 10 l)) (nodesFrom n (drop 10 l)) (field l f) (go n (drop 10 l) (below-drop 2 10 l f)) i
 
--- the same by masks, as code cuts a node out of the word in which it lies
-pub bit-even : (i : ℕ) → bitAnd (i * 10) 7 ≤ 6
-bit-even i = rw (and-mask (i * 10) 3) (omega arith)
-
-pub masked-node : (t : List ℕ) (n i word : ℕ) → Below 256 t → length t ≡ lengthOf n → i < n → word ≡ wordAt t (2 + i * 10 / 8)
-    → bitAnd (word / 2 ^ (6 - bitAnd (i * 10) 7)) 1023 ≡ getD (nodesOf t n) i 0
-masked-node t n i word f e h w =
-    let ten : i * 10 ≡ 10 * i = omega arith in
-    rw (and-mask (i * 10) 3, and-mask (word / 2 ^ (6 - i * 10 % 8)) 10, w, ten) (sym (cut-node t n i f e h))
-
 -- a buffer whose first i numbers were overwritten by those of a list
 pub overwritten-more : (d s : List ℕ) (i : ℕ) → i < length d → i < length s → set (take i s ++ drop i d) i (getD s i 0) ≡ take (i + 1) s ++ drop (i + 1) d
 overwritten-more d s i hd hs =
@@ -168,3 +164,65 @@ overwritten-more d s i hd hs =
 
 pub length-overwritten : (d s : List ℕ) (i : ℕ) → i ≤ length d → i ≤ length s → length (take i s ++ drop i d) ≡ length d
 length-overwritten d s i hd hs = length-append (take i s) (drop i d) ∙ rw (length-take-le i s hs, length-drop i d) (omega arith)
+
+-- ---- The nodes in front of a buffer
+-- one more of them
+front-more : (t old xs : List ℕ) (i k v : ℕ) → Below 256 t → k + 1 < length t → v ≤ 6 → 16 + 10 * i ≡ 8 * k + (6 - v) → i < length old → Front t i old xs
+    → Front t (i + 1) old (set xs i (wordAt t k / 2 ^ v % 1024))
+front-more t old xs i k v f h b place l e =
+    let s : List ℕ = nodesOf t (i + 1) in
+    let n : length s ≡ i + 1 = length-nodesOf t (i + 1) in
+    ap (λ (ys : List ℕ). set ys i (wordAt t k / 2 ^ v % 1024)) (e ∙ ap (λ (r : List ℕ). r ++ drop i old) (sym (take-nodesOf t i (i + 1) (omega arith))))
+    ∙ ap (set (take i s ++ drop i old) i) (sym (cut-node t i k v f h b place)) ∙ overwritten-more old s i l (omega arith)
+    ∙ ap (λ (r : List ℕ). r ++ drop (i + 1) old) (take-all (i + 1) s (omega arith))
+
+front-at : (t old xs : List ℕ) (i j : ℕ) → i ≡ j → Front t i old xs → Front t j old xs
+front-at t old xs i j e h = subst (λ (k : ℕ). Front t k old xs) e h
+
+pub cut-none : (t : List ℕ) (i : ℕ) (xs : List ℕ) → Cut t i i xs xs
+unfolding Cut
+cut-none t i xs = (refl, λ old s F. F)
+
+pub cut-then : (t : List ℕ) (i j k : ℕ) (xs ys zs : List ℕ) → Cut t i j xs ys → Cut t j k ys zs → Cut t i k xs zs
+unfolding Cut
+cut-then t i j k xs ys zs a b = (b .0 ∙ a .0, λ old s F. b .1 old (a .0 ∙ s) (a .1 old s F))
+
+pub length-cut : (t : List ℕ) (i j : ℕ) (xs ys : List ℕ) → Cut t i j xs ys → length ys ≡ length xs
+unfolding Cut
+length-cut t i j xs ys a = a .0
+
+-- all of them
+pub cut-all : (t : List ℕ) (n : ℕ) (xs ys : List ℕ) → Cut t 0 n xs ys → Front t n xs ys
+unfolding Cut nodesOf nodesFrom
+cut-all t n xs ys a = a .1 xs refl refl
+
+-- node i by shifts and masks
+pub bit-even : (i : ℕ) → bitAnd (i * 10) 7 ≤ 6
+bit-even i = rw (and-mask (i * 10) 3) (omega arith)
+
+module _ (t xs : List ℕ) (i : ℕ) (f : Below 256 t) where
+  pub one-cut : (a : ℕ) → lengthOf (i + 1) ≤ length t → i < length xs → a ≡ wordAt t (2 + i * 10 / 8) / 2 ^ (6 - bitAnd (i * 10) 7) % 1024
+      → Cut t i (i + 1) xs (set xs i a)
+  unfolding Cut lengthOf
+  one-cut a h l e =
+      let m : bitAnd (i * 10) 7 ≡ i * 10 % 8 = and-mask (i * 10) 3 in
+      (length-set xs i a, λ old s F. rw e (front-more t old xs i (2 + i * 10 / 8) (6 - bitAnd (i * 10) 7) f (omega arith) (omega arith) (omega arith) (omega arith) F))
+
+  -- four nodes in five bytes
+  pub four-cut : (at a b c d : ℕ) → i % 4 ≡ 0 → at ≡ 2 + i / 4 * 5 → lengthOf (i + 4) ≤ length t → i + 4 ≤ length xs
+      → a ≡ wordAt t at / 2 ^ 6 % 1024 → b ≡ wordAt t (at + 1) / 2 ^ 4 % 1024 → c ≡ wordAt t (at + 2) / 2 ^ 2 % 1024 → d ≡ wordAt t (at + 3) / 2 ^ 0 % 1024
+      → Cut t i (i + 4) xs (set (set (set (set xs i a) (i + 1) b) (i + 2) c) (i + 3) d)
+  unfolding Cut lengthOf
+  four-cut at a b c d even is h l ea eb ec ed = (
+    simp length-set refl,
+    λ old s F.
+        let F₁ : Front t (i + 1) old (set xs i a) = rw ea (front-more t old xs i at 6 f (omega arith) (omega arith) (omega arith) (omega arith) F) in
+        let F₂ : Front t (i + 2) old (set (set xs i a) (i + 1) b) =
+        front-at t old (set (set xs i a) (i + 1) b) (i + 1 + 1) (i + 2) (omega arith)
+        (rw eb (front-more t old (set xs i a) (i + 1) (at + 1) 4 f (omega arith) (omega arith) (omega arith) (omega arith) F₁)) in
+        let F₃ : Front t (i + 3) old (set (set (set xs i a) (i + 1) b) (i + 2) c) =
+        front-at t old (set (set (set xs i a) (i + 1) b) (i + 2) c) (i + 2 + 1) (i + 3) (omega arith)
+        (rw ec (front-more t old (set (set xs i a) (i + 1) b) (i + 2) (at + 2) 2 f (omega arith) (omega arith) (omega arith) (omega arith) F₂)) in
+        front-at t old (set (set (set (set xs i a) (i + 1) b) (i + 2) c) (i + 3) d) (i + 3 + 1) (i + 4) (omega arith)
+        (rw ed (front-more t old (set (set (set xs i a) (i + 1) b) (i + 2) c) (i + 3) (at + 3) 0 f (omega arith) (omega arith) (omega arith) (omega arith) F₃)),
+  )

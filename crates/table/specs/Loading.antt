@@ -12,6 +12,14 @@ use Rattle.table.specs.Reading.{Reading, refused, read, headerOf, nodesO
 abbrev pub wordAt : List ℕ → ℕ → ℕ
 wordAt t at = getD t at 0 * 256 + getD t (at + 1) 0
 
+-- the first i nodes of t stand in front of a buffer that was `old`
+abbrev pub Front : List ℕ → ℕ → List ℕ → List ℕ → Type 0
+Front t i old xs = xs ≡ nodesOf t i ++ drop i old
+
+-- those from i to j were put behind the first i
+unfoldable pub Cut : List ℕ → ℕ → ℕ → List ℕ → List ℕ → Type 0
+Cut t i j xs ys = (length ys ≡ length xs) × ((old : List ℕ) → length xs ≡ length old → Front t i old xs → Front t j old ys)
+
 -- the buffer `old` after a table was loaded into it: where the header is accepted, its nodes stand in front
 unfoldable pub loadedAfter : Checked → List ℕ → List ℕ → List ℕ
 loadedAfter (Refused w) t old = old

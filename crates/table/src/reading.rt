@@ -9,13 +9,13 @@ use esterel::Level;
 ghost use mathlib.Core.Path.{_≡_};
 ghost use mathlib.Core.Bool.{cond, _||_};
 ghost use mathlib.Core.List.{_++_};
-ghost use Prim.Native.Nat.{_+_, _≤_, _<_};
+ghost use Prim.Native.Nat.{_+_, _/_, _%_, _^_, _≤_, _<_};
 ghost use lib.Dec.{eqb, ltb};
 ghost use lib.ListN.{length, take, drop};
 ghost use Rattle.sets.specs.Set.{has, only, _union_};
 ghost use Rattle.table.specs.Kinds.{kindOf, rowOf};
 ghost use Rattle.table.specs.Reading.{kindOfNode, lengthOf, headerOf, nodesOf, faultOf, readFrom, deepest, wholeOf, answerOf, checkOf, refusalOf};
-ghost use Rattle.table.specs.Loading.{wordAt, loadedOf, Walked};
+ghost use Rattle.table.specs.Loading.{wordAt, Cut, loadedOf, Walked};
 
 // Two bytes as a number.
 fn word_at(table: &[u8], at: usize) -> u16
@@ -55,16 +55,47 @@ fn header(table: &[u8]) -> Checked
     Checked::Accepted(n)
 }
 
-// Cuts the n nodes behind the header out of the bytes. A node of 10 bits lies within two bytes.
+// The ten bits of the word at a place that stand before its last `behind` bits.
+fn field_at(table: &[u8], at: usize, behind: usize) -> u16
+    requires { ⌜ (at + 1 < length (now table)) × (behind ≤ 6) ⌝ }
+    ensures { λ r. ⌜ r ≡ wordAt (now (table .entry)) at / 2 ^ behind % 1024 ⌝ }
+{
+    word_at(table, at) >> behind & 0x3ff
+}
+
+// Cuts the four nodes from i on, where i is four times a number: five whole bytes.
+fn cut_four(table: &[u8], i: usize, nodes: &mut [u16])
+    requires { ⌜ (i % 4 ≡ 0) × (i + 4 ≤ 1024) × (i + 4 ≤ length (now nodes)) × (lengthOf (i + 4) ≤ length (now table)) ⌝ }
+    ensures { λ _. ⌜ Cut (now (table .entry)) i (i + 4) (now (nodes .entry)) (now (nodes .exit)) ⌝ }
+{
+    let at = 2 + i / 4 * 5;
+    nodes[i] = field_at(table, at, 6);
+    nodes[i + 1] = field_at(table, at + 1, 4);
+    nodes[i + 2] = field_at(table, at + 2, 2);
+    nodes[i + 3] = field_at(table, at + 3, 0);
+}
+
+// Cuts the node i. It lies within two bytes.
+fn cut_one(table: &[u8], i: usize, nodes: &mut [u16])
+    requires { ⌜ (i < 1024) × (i < length (now nodes)) × (lengthOf (i + 1) ≤ length (now table)) ⌝ }
+    ensures { λ _. ⌜ Cut (now (table .entry)) i (i + 1) (now (nodes .entry)) (now (nodes .exit)) ⌝ }
+{
+    let bit = i * 10;
+    nodes[i] = field_at(table, 2 + (bit >> 3), 6 - (bit & 7));
+}
+
+// Cuts the n nodes behind the header out of the bytes, four at a time while there are four.
 fn decode(table: &[u8], n: usize, nodes: &mut [u16])
     requires { ⌜ (n ≤ 1024) × (length (now table) ≡ lengthOf n) × (n ≤ length (now nodes)) ⌝ }
     ensures { λ _. ⌜ now (nodes .exit) ≡ nodesOf (now (table .entry)) n ++ drop n (now (nodes .entry)) ⌝ }
 {
     let mut i = 0;
+    while i + 4 <= n {
+        cut_four(table, i, nodes);
+        i += 4;
+    }
     while i < n {
-        let bit = i * 10;
-        let word = word_at(table, 2 + (bit >> 3));
-        nodes[i] = word >> (6 - (bit & 7)) & 0x3ff;
+        cut_one(table, i, nodes);
         i += 1;
     }
 }

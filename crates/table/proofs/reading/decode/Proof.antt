@@ -1,89 +1,83 @@
--- `table::reading::decode` meets its contract. The loop's invariant: in front of the buffer stand the nodes cut so far, and
--- behind them what was there. A node is cut out of one word (proofs/Cutting).
-use mathlib.Core.Path.{_≡_, refl, ap, _∙_}
-use mathlib.Core.List.{List, _++_}
-use Prim.Native.Nat.{ℕ, _+_, _-_, _≤_, _<_}
+-- The loops' invariant: the nodes cut so far were put in front of the buffer.
+use mathlib.Core.Path.{_≡_, refl, ap, _∙_, subst}
+use mathlib.Core.List.{List}
+use Prim.Native.Nat.{ℕ, _+_, _-_, _%_, _≤_}
 use native.Mathlib.Omega.{arith}
-use lib.ListN.{length, getD, take, drop, set, length-set}
-use lib.Seq.{take-all}
-use Rattle.table.specs.Bits.{Below}
-use Rattle.table.specs.Reading.{lengthOf, nodesOf}
-use Rattle.table.proofs.Cutting.{bit-even, masked-node, length-nodesOf, overwritten-more}
+use lib.ListN.{length}
+use Rattle.table.specs.Reading.{lengthOf}
+use Rattle.table.specs.Loading.{Front, Cut}
+use Rattle.table.proofs.Cutting.{cut-none, cut-then, cut-all, length-cut}
 use Rattle.table.proofs.reading.decode.Statement.{statement}
 use Rattle.table.proofs.reading.decode.Tie as tie
 
 abbrev Inv-loop : tie.InvT-loop
-Inv-loop table n nodes₀ i₀ nodes i = (i ≤ n) × (length nodes ≡ length nodes₀) × (nodes ≡ take i (nodesOf table n) ++ drop i nodes₀)
+Inv-loop table n nodes₀ i₀ nodes i = (i ≤ n) × (i % 4 ≡ 0) × Cut table 0 i nodes₀ nodes
 
 abbrev μ-loop : tie.MeasureT-loop
 μ-loop table n nodes₀ i₀ nodes i = n - i
 
-loop-holds : tie.Need-loop-holds Inv-loop μ-loop
-loop-holds c = (omega arith, refl, refl)
+abbrev Inv-loop2 : tie.InvT-loop2
+Inv-loop2 table n nodes₀ i₀ nodes i = (i ≤ n) × Cut table i₀ i nodes₀ nodes
 
-mul-bit : tie.Need-mul-bit Inv-loop μ-loop
-mul-bit c = omega arith
+abbrev μ-loop2 : tie.MeasureT-loop2
+μ-loop2 table n nodes₀ i₀ nodes i = n - i
 
-add-word-at : tie.Need-add-word-at Inv-loop μ-loop
-add-word-at c = omega arith
+loop-holds : tie.Need-loop-holds Inv-loop μ-loop Inv-loop2 μ-loop2
+loop-holds c = (omega arith, refl, cut-none _ _ _)
 
-word-at-requires : tie.Need-word-at-requires Inv-loop μ-loop
+add-loop : tie.Need-add-loop Inv-loop μ-loop Inv-loop2 μ-loop2
+add-loop c = omega arith
+
+cut-four-requires : tie.Need-cut-four-requires Inv-loop μ-loop Inv-loop2 μ-loop2
 unfolding lengthOf
-word-at-requires c κs = omega arith
+cut-four-requires c κs =
+    let l = c .before .before .loop in
+    let s = length-cut _ _ _ _ _ (l .inv .2) in
+    (l .inv .1, omega arith, omega arith, omega arith)
 
-sub-nodes : tie.Need-sub-nodes Inv-loop μ-loop
-sub-nodes c = bit-even (c .before .before .loop .i)
-
-cast-nodes : tie.Need-cast-nodes Inv-loop μ-loop
-cast-nodes c = omega arith
-
-shr-nodes : tie.Need-shr-nodes Inv-loop μ-loop
-shr-nodes c = omega arith
-
-mul-nodes : tie.Need-mul-nodes Inv-loop μ-loop
-mul-nodes c = omega arith
-
-slice-write-nodes : tie.Need-slice-write-nodes Inv-loop μ-loop
-slice-write-nodes c = omega arith
-
-add-i : tie.Need-add-i Inv-loop μ-loop
+add-i : tie.Need-add-i Inv-loop μ-loop Inv-loop2 μ-loop2
 add-i c = omega arith
 
-loop-less : tie.Need-loop-less Inv-loop μ-loop
+loop-less : tie.Need-loop-less Inv-loop μ-loop Inv-loop2 μ-loop2
 loop-less c = omega arith
 
--- one turn: the node in its place
-turned : (t nodes nodes₀ : List ℕ) (n i x : ℕ) → n ≤ length nodes₀ → i < n → nodes ≡ take i (nodesOf t n) ++ drop i nodes₀ → x ≡ getD (nodesOf t n) i 0
-    → set nodes i x ≡ take (i + 1) (nodesOf t n) ++ drop (i + 1) nodes₀
-turned t nodes nodes₀ n i x l h e v =
-    let m = length-nodesOf t n in
-    rw (e, v) (overwritten-more nodes₀ (nodesOf t n) i (omega arith) (omega arith))
-
-loop-again : tie.Need-loop-again Inv-loop μ-loop
+loop-again : tie.Need-loop-again Inv-loop μ-loop Inv-loop2 μ-loop2
 loop-again c =
-    let s = c .before .before .before .before .before in
-    let l = c .before .before .loop in
-    let byte : Below 256 (s .args .table .now) = λ i. omega (arith, c .before .before .before .before .shared-slice-known .given i) in (
-      omega arith,
-      simp length-set (l .inv .1),
-      turned (s .args .table .now) (l .nodes) (s .args .nodes .now) (s .args .n) (l .i) _ (s .pre .2) (c .before .loop-test .taken) (l .inv .2)
-          (masked-node (s .args .table .now) (s .args .n) (l .i) (c .word-at .result) byte (s .pre .1) (c .before .loop-test .taken) (c .word-at .ensures)),
-    )
+    let l = c .before .before .before .before .before .loop in
+    (omega arith, omega arith, cut-then _ 0 (l .i) (l .i + 4) _ _ _ (l .inv .2) (c .before .before .cut-four .ensures))
 
-same-length : tie.Need-same-length Inv-loop μ-loop
-same-length c = c .before .loop .inv .1
+loop2-holds : tie.Need-loop2-holds Inv-loop μ-loop Inv-loop2 μ-loop2
+loop2-holds c = (c .before .loop .inv .0, cut-none _ _ _)
+
+cut-one-requires : tie.Need-cut-one-requires Inv-loop μ-loop Inv-loop2 μ-loop2
+unfolding lengthOf
+cut-one-requires c κs =
+    let first = length-cut _ _ _ _ _ (c .before .before .before .before .loop .inv .2) in
+    let s = length-cut _ _ _ _ _ (c .before .before .loop2 .inv .1) in
+    (omega arith, omega arith, omega arith)
+
+add-i-2 : tie.Need-add-i-2 Inv-loop μ-loop Inv-loop2 μ-loop2
+add-i-2 c = omega arith
+
+loop2-less : tie.Need-loop2-less Inv-loop μ-loop Inv-loop2 μ-loop2
+loop2-less c = omega arith
+
+loop2-again : tie.Need-loop2-again Inv-loop μ-loop Inv-loop2 μ-loop2
+loop2-again c =
+    let l = c .before .before .before .before .before .loop2 in
+    (omega arith, cut-then _ _ (l .i) (l .i + 1) _ _ _ (l .inv .1) (c .before .before .cut-one .ensures))
+
+same-length : tie.Need-same-length Inv-loop μ-loop Inv-loop2 μ-loop2
+same-length c = length-cut _ _ _ _ _ (c .before .loop2 .inv .1) ∙ length-cut _ _ _ _ _ (c .before .before .before .loop .inv .2)
 
 -- all is cut
-returns : tie.Need-returns Inv-loop μ-loop
+returns : tie.Need-returns Inv-loop μ-loop Inv-loop2 μ-loop2
 returns c =
-    let s = c .before .before .before .before in
-    let l = c .before .loop in
-    let t = s .args .table .now in
-    let n = s .args .n in
-    let done : l .i ≡ n = omega arith in
-    let old : List ℕ = s .args .nodes .now in
-    l .inv .2 ∙ ap (λ (k : ℕ). take k (nodesOf t n) ++ drop k old) done
-    ∙ ap (λ (r : List ℕ). r ++ drop n old) (take-all n (nodesOf t n) (let m = length-nodesOf t n in omega arith))
+    let l = c .before .loop2 in
+    let s = c .before .before .before .before .before .before in
+    let done : l .i ≡ s .args .n = omega arith in
+    subst (λ (n : ℕ). Front (s .args .table .now) n (s .args .nodes .now) (l .nodes)) done
+    (cut-all _ _ _ _ (cut-then _ 0 _ _ _ _ _ (c .before .before .before .loop .inv .2) (l .inv .1)))
 
 pub decode-spec : {M : Type 1} → statement M
 decode-spec =
@@ -91,17 +85,18 @@ decode-spec =
     (tie.spec
     Inv-loop
     μ-loop
+    Inv-loop2
+    μ-loop2
     loop-holds
-    mul-bit
-    add-word-at
-    word-at-requires
-    sub-nodes
-    cast-nodes
-    shr-nodes
-    mul-nodes
-    slice-write-nodes
+    add-loop
+    cut-four-requires
     add-i
     loop-less
     loop-again
+    loop2-holds
+    cut-one-requires
+    add-i-2
+    loop2-less
+    loop2-again
     same-length
     returns)
