@@ -1,4 +1,5 @@
 pub mod Bits
+pub mod Rows
 pub mod Cutting
 pub mod Nodes
 pub mod Faults

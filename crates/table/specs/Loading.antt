@@ -1,12 +1,22 @@
--- What the functions that read a table leave, as functions of their arguments: two bytes as a word, the buffer of decoded
--- nodes, and how far a walk over it came.
+-- What the functions that read a table leave, as functions of their arguments: rows of kinds and two bytes as words, the
+-- buffer of decoded nodes, and how far a walk over it came.
 use mathlib.Core.Path.{_≡_}
-use Prim.Native.Nat.{ℕ, _+_, _-_, _*_, _≤_}
+use Prim.Native.Nat.{ℕ, _+_, _-_, _*_, _/_, _%_, _≤_}
 use mathlib.Core.List.{List, _++_}
 use lib.ListN.{length, drop, getD}
+use Rattle.table.specs.declared.Row.{Row}
 use Rattle.table.specs.declared.Checked.{Checked}
 use Rattle.table.specs.declared.Checked.the-variants.{Refused, Accepted}
+use Rattle.table.specs.Kinds.{kindOf, row, rowOf}
 use Rattle.table.specs.Reading.{Reading, refused, read, headerOf, nodesOf}
+
+-- a row out of one number, which has a byte for each of its fields
+abbrev pub unpacked : ℕ → Row
+unpacked w = row (w % 256) (w / 256 % 256) (w / 65536 % 256)
+
+-- the rows of all kinds, by their numbers
+unfoldable pub Rows : List ℕ → Type 0
+Rows xs = (k : ℕ) → unpacked (getD xs k 0) ≡ rowOf (kindOf k)
 
 -- the bytes at a place and after it, side by side
 abbrev pub wordAt : List ℕ → ℕ → ℕ

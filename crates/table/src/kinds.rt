@@ -3,99 +3,57 @@ use crate::Row;
 ghost use mathlib.Core.Path.{_≡_};
 ghost use Rattle.table.specs.Kinds.{kindOf, rowOf};
 ghost use Rattle.table.specs.Reading.{kindOfNode, operandOf};
+ghost use Rattle.table.specs.Loading.{unpacked, Rows};
 
-// A number that is no kind's.
-const UNUSED: Row = Row {
-    children: 0,
-    least: 0,
-    most: 0,
-};
-
-// "Each kind fixes its operand's range and its children", by the number of the kind.
-const KINDS: [Row; 16] = [
-    // 0 nothing
-    Row {
-        children: 0,
-        least: 0,
-        most: 0,
-    },
-    // 1 pause
-    Row {
-        children: 0,
-        least: 1,
-        most: 63,
-    },
-    // 2 gotopause
-    Row {
-        children: 0,
-        least: 1,
-        most: 63,
-    },
-    // 3 emit
-    Row {
-        children: 0,
-        least: 0,
-        most: 31,
-    },
-    // 4 exit
-    Row {
-        children: 0,
-        least: 1,
-        most: 63,
-    },
-    // 5 signal
-    Row {
-        children: 1,
-        least: 0,
-        most: 31,
-    },
-    // 6 present
-    Row {
-        children: 2,
-        least: 0,
-        most: 31,
-    },
-    // 7 sequence
-    Row {
-        children: 2,
-        least: 0,
-        most: 0,
-    },
-    // 8 parallel
-    Row {
-        children: 2,
-        least: 0,
-        most: 0,
-    },
-    // 9 loop
-    Row {
-        children: 1,
-        least: 0,
-        most: 0,
-    },
-    // 10 try
-    Row {
-        children: 1,
-        least: 0,
-        most: 0,
-    },
-    // 11 to 15
-    UNUSED,
-    UNUSED,
-    UNUSED,
-    UNUSED,
-    UNUSED,
+// "Each kind fixes its operand's range and its children": by the number of the kind its largest operand, its smallest
+// operand and its children, a byte each.
+pub const KINDS: [u32; 16] = [
+    0x00_00_00, // nothing
+    0x3f_01_00, // pause
+    0x3f_01_00, // gotopause
+    0x1f_00_00, // emit
+    0x3f_01_00, // exit
+    0x1f_00_01, // signal
+    0x1f_00_02, // present
+    0x00_00_02, // sequence
+    0x00_00_02, // parallel
+    0x00_00_01, // loop
+    0x00_00_01, // try
+    0x00_00_00, // 11 to 15
+    0x00_00_00,
+    0x00_00_00,
+    0x00_00_00,
+    0x00_00_00,
 ];
+
+fn unpack(word: u32) -> Row
+    ensures { λ r. ⌜ r ≡ unpacked word ⌝ }
+{
+    Row {
+        children: (word & 0xff) as u8,
+        least: (word >> 8 & 0xff) as u8,
+        most: (word >> 16 & 0xff) as u8,
+    }
+}
+
+// What a kind fixes, out of a copy of the table: a walk that read the constant itself would lay it out anew at every node.
+pub fn row_in(rows: &[u32; 16], kind: u16) -> Row
+    requires { ⌜ Rows (now rows) ⌝ }
+    ensures { λ r. ⌜ r ≡ rowOf (kindOf kind) ⌝ }
+{
+    if kind < 16 {
+        unpack(rows[kind as usize])
+    } else {
+        unpack(0)
+    }
+}
 
 // What a kind fixes.
 pub fn row_of(kind: u16) -> Row
     ensures { λ r. ⌜ r ≡ rowOf (kindOf kind) ⌝ }
 {
-    if kind < 16 {
-        KINDS[kind as usize]
-    } else {
-        UNUSED
-    }
+    let rows = KINDS;
+    row_in(&rows, kind)
 }
 
 // "4 bits kind, 6 bits operand"

@@ -1,9 +1,10 @@
 // Reading a table: the header, the nodes out of the bytes, the statement out of the nodes. And check.
 use crate::Checked;
 use crate::Row;
+use crate::kinds::KINDS;
 use crate::kinds::kind_of;
 use crate::kinds::operand_of;
-use crate::kinds::row_of;
+use crate::kinds::row_in;
 use esterel::Label;
 use esterel::Level;
 ghost use mathlib.Core.Path.{_≡_};
@@ -15,7 +16,7 @@ ghost use lib.ListN.{length, take, drop};
 ghost use Rattle.sets.specs.Set.{has, only, _union_};
 ghost use Rattle.table.specs.Kinds.{kindOf, rowOf};
 ghost use Rattle.table.specs.Reading.{kindOfNode, lengthOf, headerOf, nodesOf, faultOf, readFrom, deepest, wholeOf, answerOf, checkOf, refusalOf};
-ghost use Rattle.table.specs.Loading.{wordAt, Cut, loadedOf, Walked};
+ghost use Rattle.table.specs.Loading.{Rows, wordAt, Cut, loadedOf, Walked};
 
 // Two bytes as a number.
 fn word_at(table: &[u8], at: usize) -> u16
@@ -177,8 +178,16 @@ fn use_label(label: Label, used: u64) -> u64
 // Walks over the statement at node `at` of the first n, with all below it, inside `tries` try statements; `left` is the depth
 // that is left, that node's included. Gives the number of the refusal, or 0 with the place after the statement in `at` and
 // its labels added to `used`.
-fn walk(nodes: &[u16; 1024], n: usize, left: u8, tries: u8, at: &mut usize, used: &mut u64) -> u8
-    requires { ⌜ (n ≤ 1024) × (length (now nodes) ≡ 1024) × (tries + left ≤ 255) ⌝ }
+fn walk(
+    nodes: &[u16; 1024],
+    n: usize,
+    left: u8,
+    tries: u8,
+    at: &mut usize,
+    used: &mut u64,
+    rows: &[u32; 16],
+) -> u8
+    requires { ⌜ (n ≤ 1024) × (length (now nodes) ≡ 1024) × (tries + left ≤ 255) × Rows (now rows) ⌝ }
     ensures { λ r. ⌜ Walked n (readFrom left tries (now (used .entry)) (drop (now (at .entry)) (take n (now (nodes .entry))))) r (now (at .exit)) (now (used .exit)) ⌝ }
 {
     let here = *at;
@@ -187,7 +196,7 @@ fn walk(nodes: &[u16; 1024], n: usize, left: u8, tries: u8, at: &mut usize, used
     }
     let node = nodes[here];
     let kind = kind_of(node);
-    let row = row_of(kind);
+    let row = row_in(rows, kind);
     let why = fault_of(node, row, left, tries, *used);
     if why != 0 {
         return why;
@@ -203,15 +212,15 @@ fn walk(nodes: &[u16; 1024], n: usize, left: u8, tries: u8, at: &mut usize, used
         2..=4 => 0,
         5..=9 => {
             if row.children == 1 {
-                return walk(nodes, n, below, tries, at, used);
+                return walk(nodes, n, below, tries, at, used, rows);
             }
-            let first = walk(nodes, n, below, tries, at, used);
+            let first = walk(nodes, n, below, tries, at, used, rows);
             if first != 0 {
                 return first;
             }
-            walk(nodes, n, below, tries, at, used)
+            walk(nodes, n, below, tries, at, used, rows)
         }
-        10 => walk(nodes, n, below, tries + 1, at, used),
+        10 => walk(nodes, n, below, tries + 1, at, used, rows),
         11..=15 => 6,
         _ => 6,
     }
@@ -225,7 +234,8 @@ fn walk_all(nodes: &[u16; 1024], n: u16) -> Checked
     let count = n as usize;
     let mut at = 0;
     let mut used = 0;
-    let why = walk(nodes, count, 60, 0, &mut at, &mut used);
+    let rows = KINDS;
+    let why = walk(nodes, count, 60, 0, &mut at, &mut used, &rows);
     if why != 0 {
         return Checked::Refused(why);
     }

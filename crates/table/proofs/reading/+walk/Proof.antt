@@ -18,23 +18,23 @@ use Rattle.table.proofs.reading.walk.Kinds as walk-kinds
 use Rattle.table.proofs.reading.+walk.Lts-walk as walk-lts
 use Rattle.table.proofs.kinds.kind_of.Reads as kind-of-reads
 use Rattle.table.proofs.kinds.operand_of.Reads as operand-of-reads
-use Rattle.table.proofs.kinds.row_of.Reads as row-of-reads
+use Rattle.table.proofs.kinds.row_in.Reads as row-in-reads
 use Rattle.table.proofs.reading.fault_of.Reads as fault-of-reads
 use Rattle.table.proofs.reading.use_label.Reads as use-label-reads
 use Rattle.table.proofs.reading.+walk.{statement}
 use Rattle.table.proofs.reading.+walk.Tie.{close}
 
-abbrev μ-walk : Measures 3 walk-kinds.ps ℕ
+abbrev μ-walk : Measures 4 walk-kinds.ps ℕ
 μ-walk κs a = a .1 .1 .0
 
-abbrev walk-at : ℕ → In 3 walk-kinds.ps
-walk-at t = and 3 walk-kinds.ps (is 3 walk-kinds.ps μ-walk t) walk.Pre
+abbrev walk-at : ℕ → In 4 walk-kinds.ps
+walk-at t = and 4 walk-kinds.ps (is 4 walk-kinds.ps μ-walk t) walk.Pre
 
-abbrev walk-below : ℕ → In 3 walk-kinds.ps
-walk-below t = and 3 walk-kinds.ps (falls 3 walk-kinds.ps _<_ μ-walk t) walk.Pre
+abbrev walk-below : ℕ → In 4 walk-kinds.ps
+walk-below t = and 4 walk-kinds.ps (falls 4 walk-kinds.ps _<_ μ-walk t) walk.Pre
 
 abbrev claims : ℕ → walk-lts.Claims
-claims t = (kind-of-reads.Asked, kind-of-reads.Learnt, row-of-reads.Asked, row-of-reads.Learnt, fault-of-reads.Asked, fault-of-reads.Learnt, operand-of-reads.Asked, operand-of-reads.Learnt, use-label-reads.Asked, use-label-reads.Learnt, walk-below t, walk.Post)
+claims t = (kind-of-reads.Asked, kind-of-reads.Learnt, row-in-reads.Asked, row-in-reads.Learnt, fault-of-reads.Asked, fault-of-reads.Learnt, operand-of-reads.Asked, operand-of-reads.Learnt, use-label-reads.Asked, use-label-reads.Learnt, walk-below t, walk.Post)
 
 -- the first n nodes
 module _ (t : ℕ) (c : walk-lts.Start (claims t) (walk-at t) walk.Post) where
@@ -85,8 +85,8 @@ module _ (t : ℕ) (c : walk-lts.Else2 (claims t) (walk-at t) walk.Post) where
   known : kind ≤ 10
   known = fine-known fine
 
-  row : c .before .before .before .row-of .result ≡ rowOf (kindOf kind)
-  row = c .before .before .before .row-of .ensures
+  row : c .before .before .before .row-in .result ≡ rowOf (kindOf kind)
+  row = c .before .before .before .row-in .ensures
 
 -- at a kind with one child or two
 module _ (t : ℕ) (c : walk-lts.After-struct-known (claims t) (walk-at t) walk.Post) where
@@ -112,7 +112,7 @@ module _ (t : ℕ) where
   element-copy-out-node c = omega arith
 
   fault-of-requires : walk-lts.Need-fault-of-requires (claims t) (walk-at t) walk.Post
-  fault-of-requires c κs = c .before .row-of .ensures ∙ ap (λ (k : ℕ). rowOf (kindOf k)) (c .before .before .kind-of .ensures)
+  fault-of-requires c κs = c .before .row-in .ensures ∙ ap (λ (k : ℕ). rowOf (kindOf k)) (c .before .before .kind-of .ensures)
 
   returns-2 : walk-lts.Need-returns-2 (claims t) (walk-at t) walk.Post
   returns-2 c =
@@ -140,13 +140,13 @@ module _ (t : ℕ) where
   add-walk c = let k = c .before in omega (arith, room t k, start t k .pre)
 
   walk-requires : walk-lts.Need-walk-requires (claims t) (walk-at t) walk.Post
-  walk-requires c κs = let k = c .before .before .before in omega (arith, room t k, start t k .pre)
+  walk-requires c κs = let k = c .before .before .before in let p = start t k .pre .1 in (omega (arith, room t k, start t k .pre .0), (p .0, p .1, omega (arith, room t k, p .2), p .3))
 
-  row-of-requires : walk-lts.Need-row-of-requires (claims t) (walk-at t) walk.Post
-  row-of-requires c κs = search needs
+  row-in-requires : walk-lts.Need-row-in-requires (claims t) (walk-at t) walk.Post
+  row-in-requires c κs = c .before .before .before .before .pre .1 .3
 
   walk-requires-2 : walk-lts.Need-walk-requires-2 (claims t) (walk-at t) walk.Post
-  walk-requires-2 c κs = let k = chosen t (c .before .before .before) in omega (arith, room t k, start t k .pre)
+  walk-requires-2 c κs = let k = chosen t (c .before .before .before) in let p = start t k .pre .1 in (omega (arith, room t k, start t k .pre .0), (p .0, p .1, omega (arith, room t k, p .2), p .3))
 
   returns-3 : walk-lts.Need-returns-3 (claims t) (walk-at t) walk.Post
   returns-3 c =
@@ -156,7 +156,7 @@ module _ (t : ℕ) where
       (c .walk2 .last .1 .1 .1 .1 .1 .0) (from-five t (d .before)) (to-nine t (d .before)) (ap (λ (r : Row). r .children) (sym (row t k)) ∙ d .if5 .taken) (c .walk2 .ensures)
 
   walk-requires-3 : walk-lts.Need-walk-requires-3 (claims t) (walk-at t) walk.Post
-  walk-requires-3 c κs = let k = chosen t (c .before .before .before) in omega (arith, room t k, start t k .pre)
+  walk-requires-3 c κs = let k = chosen t (c .before .before .before) in let p = start t k .pre .1 in (omega (arith, room t k, start t k .pre .0), (p .0, p .1, omega (arith, room t k, p .2), p .3))
 
   returns-4 : walk-lts.Need-returns-4 (claims t) (walk-at t) walk.Post
   returns-4 c =
@@ -168,7 +168,7 @@ module _ (t : ℕ) where
       (c .if6 .taken) (w .walk3 .ensures)
 
   walk-requires-4 : walk-lts.Need-walk-requires-4 (claims t) (walk-at t) walk.Post
-  walk-requires-4 c κs = let k = chosen t (c .before .before .before .before .before .before .before) in omega (arith, room t k, start t k .pre)
+  walk-requires-4 c κs = let k = chosen t (c .before .before .before .before .before .before .before) in let p = start t k .pre .1 in (omega (arith, room t k, start t k .pre .0), (p .0, p .1, omega (arith, room t k, p .2), p .3))
 
   returns-5 : walk-lts.Need-returns-5 (claims t) (walk-at t) walk.Post
   returns-5 c =
@@ -224,7 +224,7 @@ pub +walk-spec : {M : Type 1} → statement M
     (mul-node t)
     (element-copy-out-node t)
     (kind-of-requires t)
-    (row-of-requires t)
+    (row-in-requires t)
     (fault-of-requires t)
     (returns-2 t)
     (add-at t)

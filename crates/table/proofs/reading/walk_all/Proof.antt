@@ -1,18 +1,19 @@
 -- `table::reading::walk_all` meets its contract: by what the walk gave (proofs/Loading).
-use mathlib.Core.Path.{_≡_}
+use mathlib.Core.Path.{_≡_, refl}
 use mathlib.Core.List.{List}
 use Prim.Native.Nat.{ℕ}
 use native.Mathlib.Omega.{arith}
 use lib.ListN.{length, take}
 use lib.Seq.{length-take-le}
-use borrow.Author.Needs.{needs}
+use Rattle.table.specs.Kinds.{kinds, rowOf}
+use Rattle.table.proofs.Rows.{rows-are}
 use Rattle.table.proofs.Loading.{whole-refused, whole-over, whole-read}
 use Rattle.table.proofs.reading.walk_all.Statement.{statement}
 use Rattle.table.proofs.reading.walk_all.Tie as tie
 
 module _ (c : tie.After-walk) where
   abbrev start : tie.Start
-  start = c .before .before .before
+  start = c .before .before .before .before
 
   abbrev those : List ℕ
   those = take (start .args .n) (start .args .nodes .now)
@@ -27,7 +28,8 @@ module _ (c : tie.After-walk) where
   used = c .walk .last .1 .1 .1 .1 .1 .0
 
 walk-requires : tie.Need-walk-requires
-walk-requires c κs = search needs
+unfolding rowOf kinds
+walk-requires c κs = (omega arith, omega arith, omega arith, rows-are _ refl)
 
 returns : tie.Need-returns
 returns c =
