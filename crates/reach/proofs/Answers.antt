@@ -6,7 +6,7 @@ use mathlib.Core.List.{List}
 use Prim.Native.Nat.{ℕ, suc, _≤_}
 use native.Mathlib.Omega.{arith}
 use lib.ListN.{length, take}
-use Rattle.esterel.specs.Statement.{Statement, LevelsFromOne, pauseCount}
+use Rattle.esterel.specs.Statement.{Statement, Valid, pauseCount}
 use Rattle.esterel.specs.Codes.{Codes, labels, s}
 use Rattle.esterel.specs.Reachability as rounds
 use Rattle.esterel.proofs.Codes.{codes-equal}
@@ -26,7 +26,7 @@ use Rattle.table.proofs.Places.{placed-table}
 use Rattle.reach.specs.declared.Reached.the-variants.{Refused, Found}
 use Rattle.reach.specs.declared.Settled.{Settled}
 use Rattle.reach.specs.CodeSets.{codesOf}
-use Rattle.reach.specs.Rounds.{statementOf, Ready, Rests}
+use Rattle.reach.specs.Rounds.{statementOf, Reaches}
 use Rattle.reach.specs.Answers.{foundOf, answerOf, reachOf}
 
 -- ---- The nodes of an accepted table
@@ -34,16 +34,8 @@ module _ (t : List ℕ) (n : ℕ) (p : Statement) (h : tableOf t ≡ holds n p) 
   pub table-statement : statementOf (nodesOf t n) ≡ p
   table-statement = ap (λ (x : Placed). x .statement) (placed-table t n p h)
 
-  pub table-ready : (notes : List ℕ) → length notes ≡ 1024 → Ready (nodesOf t n) notes
-  table-ready notes l =
-      let few = accepted t n p h .header .few in
-      let count = length-nodesOf t n in
-      record {
-        few = omega arith;
-        room = omega arith;
-        whole = ap (λ (x : Placed). x .next) (placed-table t n p h) ∙ sym count;
-        levels = subst LevelsFromOne (sym table-statement) (valid-levels 0 p (accepted t n p h .valid));
-      }
+  pub table-valid : Valid 0 (statementOf (nodesOf t n))
+  table-valid = subst (Valid 0) (sym table-statement) (accepted t n p h .valid)
 
 -- ---- The answer
 module _ (t old new : List ℕ) (c : Checked) (h : (c ≡ checkOf t) × (new ≡ loadedOf t old)) where
@@ -62,13 +54,13 @@ module _ (t old new : List ℕ) (c : Checked) (h : (c ≡ checkOf t) × (new ≡
     pub part-length : n ≡ length (take n new)
     part-length = sym (ap length (held .2) ∙ length-nodesOf t n)
 
-    pub part-ready : (notes : List ℕ) → length notes ≡ 1024 → Ready (take n new) notes
-    part-ready notes l = subst (λ (xs : List ℕ). Ready xs notes) (sym (held .2)) (table-ready t n (held .0) (held .1) notes l)
+    pub part-valid : Valid 0 (statementOf (take n new))
+    part-valid = subst (λ (xs : List ℕ). Valid 0 (statementOf xs)) (sym (held .2)) (table-valid t n (held .0) (held .1))
 
-    pub reach-found : (found : Settled) (notes : List ℕ) → Rests (take n new) found notes → (ends : Bool) → ends ≡ codesOf (found .start) .ends
+    pub reach-found : (found : Settled) → Reaches (take n new) found → (ends : Bool) → ends ≡ codesOf (found .start) .ends
         → Found ends (found .start .labels) (found .set) (found .rounds) ≡ reachOf t
     unfolding reachOf answerOf foundOf labels codesOf
-    reach-found found notes r ends b =
+    reach-found found r ends b =
         let now : statementOf (take n new) ≡ held .0 = ap statementOf (held .2) ∙ table-statement t n (held .0) (held .1) in
         let ends-are : ends ≡ s (statementOf (take n new)) .ends = b ∙ ap (λ (K : Codes). K .ends) (r .start) in
         let labels-are : found .start .labels ≡ s (statementOf (take n new)) .pausing = ap (λ (K : Codes). K .pausing) (r .start) in

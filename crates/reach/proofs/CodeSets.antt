@@ -3,7 +3,7 @@
 use mathlib.Core.Path.{_≡_, refl, sym, ap, ap₂, _∙_}
 use mathlib.Core.Logic.{_≢_, _⊎_, inl, inr}
 use mathlib.Core.Bool.{Bool, true, false, cond, not, _&&_, _||_}
-use Prim.Native.Nat.{ℕ, zero, suc, _+_, _-_, _*_, _/_, _%_, _^_, _≤_, _<_, suc-le-suc, zero-le}
+use Prim.Native.Nat.{ℕ, zero, suc, _+_, _-_, _*_, _/_, _%_, _^_, _≤_, _<_}
 use native.Mathlib.Nat.{mod-eq-of-lt, one-mul, pow-suc, mul-comm, div-div-eq-div-mul, div-mul-le-self}
 use native.Mathlib.Omega.{arith}
 use lib.Bits.{bitOr, bitAnd, and-mask, or-shr, or-block, or-zero-l}
@@ -138,11 +138,11 @@ unfolding followedBy minusZero
 stops K K′ h = parts h refl refl ∙ sym (ap (λ (z : Bool). join (minusZero K) (cond z K′ none)) h ∙ join-none (minusZero K))
 
 -- ---- the maximum: the members of a that are no lower than some member of m
-and-true : (b : Bool) → (b && true) ≡ b
+pub and-true : (b : Bool) → (b && true) ≡ b
 and-true true = refl
 and-true false = refl
 
-and-false : (b : Bool) → (b && false) ≡ false
+pub and-false : (b : Bool) → (b && false) ≡ false
 and-false true = refl
 and-false false = refl
 
@@ -181,18 +181,6 @@ unfolding notBelow
 notBelow-empty zero a = refl
 notBelow-empty (suc n) zero = refl
 notBelow-empty (suc n) (suc a) = ap (λ (x : ℕ). x * 2) (notBelow-empty n (suc a / 2))
-
-under-lt : (d m k : ℕ) → (d ≡ 0 → m < k) → under d m < suc k
-under-lt zero m k h = suc-le-suc (h refl)
-under-lt (suc d) m k h = suc-le-suc zero-le
-
--- a set that is not empty has its lowest member within the width
-pub lowest-within : (w m : ℕ) → m < 2 ^ w → m ≢ 0 → trailingZeros w m < w
-unfolding trailingZeros
-lowest-within zero m h z = absurd (z (omega arith))
-lowest-within (suc w) m h z =
-    let g : m < 2 ^ w * 2 = rw (pow-suc 2 w) at h in
-    under-lt (m % 2) (trailingZeros w (m / 2)) w (λ e. lowest-within w (m / 2) (omega arith) (λ q. z (omega arith)))
 
 -- by what K′ has of 0 and of the labels
 choose : (K K′ : Codes) (z l : Bool) → K′ .ends ≡ z → hasLow K′ ≡ l

@@ -4,3 +4,6 @@ pub mod Passes
 pub mod Notes
 pub mod Rounds
 pub mod Answers
+pub mod Summaries
+pub mod Summing
+pub mod SummedNodes

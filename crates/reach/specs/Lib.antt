@@ -4,3 +4,4 @@ pub mod Notes
 pub mod Passes
 pub mod Rounds
 pub mod Answers
+pub mod Summaries

@@ -13,7 +13,7 @@ use Rattle.sets.proofs.Booleans.{or-left, or-right}
 use Rattle.esterel.specs.Statement.{Statement, size, depth}
 use Rattle.esterel.specs.Reachability.{reach}
 use Rattle.esterel.specs.Trimming.{isNothing, trimmed}
-use Rattle.esterel.proofs.Validity.{valid-levels, valid-trimmed, size-trimmed}
+use Rattle.esterel.proofs.Validity.{valid-trimmed, size-trimmed}
 use Rattle.table.specs.Reading.{lengthOf, deepest}
 use Rattle.table.specs.Places.{statementAt}
 use Rattle.table.specs.Writing.{nodes, writeNodes, write, Writable}
@@ -51,7 +51,7 @@ root = record { started = true; tries = 0; kept = 0 }
 module _ (xs : List ℕ) (T : Tree xs) where
   pub settle-ready : (notes : List ℕ) → length notes ≡ 1024 → rounds.Ready xs notes
   settle-ready notes l =
-      record { few = T .few; room = (let f = T .few in omega arith); whole = T .whole; levels = valid-levels 0 (statementOf xs) (T .valid) }
+      record { few = T .few; room = (let f = T .few in omega arith); valid = T .valid }
 
   -- no exit leaves the root, so its levels are those of the trimmed statement
   root-is : (R : ℕ) (places : List ℕ) → R ≡ reach (statementOf xs) .set → trimmedIn R places root (statementOf xs) ≡ trimmed (statementOf xs)

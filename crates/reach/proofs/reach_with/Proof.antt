@@ -1,6 +1,6 @@
 -- `reach::reach_with` meets its contract: by the answer of check, and on an accepted table by what the rounds come to.
 use borrow.Author.Needs.{needs}
-use Rattle.reach.proofs.Answers.{reach-refused, part-length, part-ready, reach-found}
+use Rattle.reach.proofs.Answers.{reach-refused, part-length, part-valid, reach-found}
 use Rattle.reach.proofs.reach_with.Statement.{statement}
 use Rattle.reach.proofs.reach_with.Tie as tie
 
@@ -24,27 +24,27 @@ returns c =
 cast-count : tie.Need-cast-count
 cast-count c = search needs
 
-slice-aggregate-settle : tie.Need-slice-aggregate-settle
-slice-aggregate-settle c =
+slice-aggregate-rounds-of : tie.Need-slice-aggregate-rounds-of
+slice-aggregate-rounds-of c =
     let k = c .before .before .before .before .before .before in
     let e = c .before .before .before .before .checked .given in
     part-length (k .before .before .before .args .table .now) (k .before .before .before .args .nodes .now) _ (k .load .result) (k .load .ensures) (e .0 .0) (e .1)
 
-settle-requires : tie.Need-settle-requires
-settle-requires c κs =
-    let k = c .before .before .before .before .before .before .before in
-    let e = c .before .before .before .before .before .checked .given in
-    part-ready (k .before .before .before .args .table .now) (k .before .before .before .args .nodes .now) _ (k .load .result) (k .load .ensures) (e .0 .0) (e .1) _ (k .before .before .before .pre)
+rounds-of-requires : tie.Need-rounds-of-requires
+rounds-of-requires c κs =
+    let k = c .before .before .before .before .before .before in
+    let e = c .before .before .before .before .checked .given in
+    part-valid (k .before .before .before .args .table .now) (k .before .before .before .args .nodes .now) _ (k .load .result) (k .load .ensures) (e .0 .0) (e .1)
 
 ends-requires : tie.Need-ends-requires
 ends-requires c κs = search needs
 
 returns-2 : tie.Need-returns-2
 returns-2 c =
-    let k = c .before .before .before .before .before .before .before .before .before .before in
-    let e = c .before .before .before .before .before .before .before .before .checked .given in
-    let f = c .before .before .settle in
-    reach-found (k .before .before .before .args .table .now) (k .before .before .before .args .nodes .now) _ (k .load .result) (k .load .ensures) (e .0 .0) (e .1) (f .result) _ (f .ensures) (c .ends .result) (c .ends .ensures)
+    let k = c .before .before .before .before .before .before .before .before .before in
+    let e = c .before .before .before .before .before .before .before .checked .given in
+    let f = c .before .before .rounds-of in
+    reach-found (k .before .before .before .args .table .now) (k .before .before .before .args .nodes .now) _ (k .load .result) (k .load .ensures) (e .0 .0) (e .1) (f .result) (f .ensures) (c .ends .result) (c .ends .ensures)
 
 pub reach-with-spec : {M : Type 1} → statement M
-reach-with-spec = tie.close (tie.spec load-requires enum-known-checked enum-told refusal-requires returns cast-count slice-aggregate-settle settle-requires ends-requires returns-2)
+reach-with-spec = tie.close (tie.spec load-requires enum-known-checked enum-told refusal-requires returns cast-count slice-aggregate-rounds-of rounds-of-requires ends-requires returns-2)

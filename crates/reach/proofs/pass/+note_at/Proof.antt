@@ -1,7 +1,7 @@
 -- `pass::note_at` meets its contract: each arm's facts go to the law of its kind. The depth that is left falls.
 use mathlib.Core.Path.{_≡_, refl, sym, ap, _∙_, subst}
 use mathlib.Core.Logic.{inl, inr, ⊎-elim}
-use Prim.Native.Nat.{ℕ, suc, zero-le, _+_, _-_, _≤_, _<_}
+use Prim.Native.Nat.{ℕ, _+_, _-_, _≤_, _<_}
 use native.Mathlib.Nat.{mod-lt}
 use native.Mathlib.Omega.{arith}
 use lib.ListN.{length, getD}
@@ -12,7 +12,7 @@ use Rattle.table.specs.Reading.{operandOf}
 use Rattle.table.specs.Places.{placed}
 use Rattle.reach.specs.Analysis.{analysed, analysedOf}
 use Rattle.reach.specs.Passes.{Passable}
-use Rattle.reach.proofs.Nodes.{Node}
+use Rattle.reach.proofs.Nodes.{Node, above-ten}
 use Rattle.reach.proofs.Passes.{at-none, at-nothing, at-pause, at-gotopause, at-emit, at-exit, at-unused, exit-level, note-fits, signal-kind, loop-kind, try-kind, enter-one, leave-one, present-kind, sequence-kind, parallel-kind, enter-first, enter-second, leave-two}
 use borrow.Fn.Kinds.{In}
 use borrow.Fn.PlainCycle.{Measures, is, falls, and}
@@ -65,13 +65,6 @@ module _ (t : ℕ) (e : note-at-lts.After-kind-of (claims t) (note-at-at t) note
 
   falls-by-one : start .args .left - 1 < t
   falls-by-one = omega (arith, start .pre .0, e .before .before .before .before .if1 .left)
-
-up : (m k : ℕ) → m ≤ k → (k ≡ m → ⊥) → suc m ≤ k
-up m k h f = omega arith
-
-above-ten : (k : ℕ) → (k ≡ 0 → ⊥) → (k ≡ 1 → ⊥) → (k ≡ 2 → ⊥) → (k ≡ 3 → ⊥) → (k ≡ 4 → ⊥) → (k ≡ 5 → ⊥) → (k ≡ 6 → ⊥) → (k ≡ 7 → ⊥) → (k ≡ 8 → ⊥) → (k ≡ 9 → ⊥) → (k ≡ 10 → ⊥) → 11 ≤ k
-above-ten k n0 n1 n2 n3 n4 n5 n6 n7 n8 n9 n10 =
-    up 10 k (up 9 k (up 8 k (up 7 k (up 6 k (up 5 k (up 4 k (up 3 k (up 2 k (up 1 k (up 0 k zero-le n0) n1) n2) n3) n4) n5) n6) n7) n8) n9) n10
 
 module _ (t : ℕ) where
   of-nothing-requires : note-at-lts.Need-of-nothing-requires (claims t) (note-at-at t) note-at.Post
