@@ -55,23 +55,27 @@ module _ {left : ℕ} {nodes : List ℕ} {at : ℕ} (found : Summary) (kept : Li
   at-pause kept′ n o e h = found-here (placed-node n ∙ ap (λ (m : ℕ). placed (pause m) (at + 1)) (sym e)) (sum-pause found kept kept′ o (at + 1) h)
 
 -- ---- One child
-module _ {left : ℕ} {nodes : List ℕ} {at : ℕ} {kept : List ℕ} (h : Summable left nodes at kept) where
+module _ {left : ℕ} {nodes : List ℕ} {at : ℕ} {kept notes endings : List ℕ} (h : Summable left nodes at kept notes endings) where
+  -- below it, in so many tries
+  entered : (tries : ℕ) → Valid tries (statementAt (left - 1) nodes (at + 1) .statement) → Summable (left - 1) nodes (at + 1) kept notes endings
+  entered tries v = record { tries = tries; valid = v; all = h .all; room = h .room; notes-are = h .notes-are; endings-are = h .endings-are }
+
   -- an exit has a level from 1 on
   pub exit-level : Node left nodes at 4 → 1 ≤ operandOf (getD nodes at 0)
   unfolding kindOf kinds placeKind Valid
   exit-level n = subst (λ (x : Placed). Valid (h .tries) (x .statement)) (placed-node n) (h .valid) .0
 
-  pub enter-signal : Node left nodes at 5 → Summable (left - 1) nodes (at + 1) kept
+  pub enter-signal : Node left nodes at 5 → Summable (left - 1) nodes (at + 1) kept notes endings
   unfolding kindOf kinds placeKind Valid
-  enter-signal n = record { tries = h .tries; valid = subst (λ (x : Placed). Valid (h .tries) (x .statement)) (placed-node n) (h .valid) .1; room = h .room }
+  enter-signal n = entered (h .tries) (subst (λ (x : Placed). Valid (h .tries) (x .statement)) (placed-node n) (h .valid) .1)
 
-  pub enter-loop : Node left nodes at 9 → Summable (left - 1) nodes (at + 1) kept
+  pub enter-loop : Node left nodes at 9 → Summable (left - 1) nodes (at + 1) kept notes endings
   unfolding kindOf kinds placeKind Valid
-  enter-loop n = record { tries = h .tries; valid = subst (λ (x : Placed). Valid (h .tries) (x .statement)) (placed-node n) (h .valid); room = h .room }
+  enter-loop n = entered (h .tries) (subst (λ (x : Placed). Valid (h .tries) (x .statement)) (placed-node n) (h .valid))
 
-  pub enter-try : Node left nodes at 10 → Summable (left - 1) nodes (at + 1) kept
+  pub enter-try : Node left nodes at 10 → Summable (left - 1) nodes (at + 1) kept notes endings
   unfolding kindOf kinds placeKind Valid
-  enter-try n = record { tries = suc (h .tries); valid = subst (λ (x : Placed). Valid (h .tries) (x .statement)) (placed-node n) (h .valid); room = h .room }
+  enter-try n = entered (suc (h .tries)) (subst (λ (x : Placed). Valid (h .tries) (x .statement)) (placed-node n) (h .valid))
 
 module _ {left : ℕ} {nodes : List ℕ} {at : ℕ} {P : Summary} {kept one : List ℕ} where
   pub at-signal : Node left nodes at 5 → Summarised (statementAt (left - 1) nodes (at + 1)) P kept one → Summarised (statementAt left nodes at) P kept one
@@ -107,8 +111,8 @@ pub parallel-splits : Splits 8 (λ o. parallel)
 unfolding kindOf kinds placeKind Valid
 parallel-splits = record { places = λ o child at. refl; parts = λ tries o p q v. v }
 
-module _ {k : ℕ} {f : ℕ → Statement → Statement → Statement} (S : Splits k f) {left : ℕ} {nodes : List ℕ} {at : ℕ} (n : Node left nodes at k) {kept : List ℕ}
-    (h : Summable left nodes at kept) where
+module _ {k : ℕ} {f : ℕ → Statement → Statement → Statement} (S : Splits k f) {left : ℕ} {nodes : List ℕ} {at : ℕ} (n : Node left nodes at k) {kept notes endings : List ℕ}
+    (h : Summable left nodes at kept notes endings) where
   abbrev first : Placed
   first = statementAt (left - 1) nodes (at + 1)
 
@@ -121,15 +125,18 @@ module _ {k : ℕ} {f : ℕ → Statement → Statement → Statement} (S : Spli
   held : Valid (h .tries) (first .statement) × Valid (h .tries) (second .statement) × Apart (pauses (first .statement)) (pauses (second .statement))
   held = S .parts (h .tries) (operandOf (getD nodes at 0)) (first .statement) (second .statement) (subst (λ (x : Placed). Valid (h .tries) (x .statement)) here-two (h .valid))
 
-  pub enter-first : Summable (left - 1) nodes (at + 1) kept
-  enter-first = record { tries = h .tries; valid = held .0; room = h .room }
+  pub enter-first : Summable (left - 1) nodes (at + 1) kept notes endings
+  enter-first = entered h (h .tries) (held .0)
 
   module _ {P : Summary} {one : List ℕ} (g : Summarised first P kept one) where
-    pub enter-second : Summable (left - 1) nodes (P .next) one
-    enter-second = record {
+    pub enter-second : {notes′ endings′ : List ℕ} → (length notes′ ≡ 1024) × (length endings′ ≡ 1024) → Summable (left - 1) nodes (P .next) one notes′ endings′
+    enter-second (n, e) = record {
       tries = h .tries;
       valid = subst (λ (m : ℕ). Valid (h .tries) (statementAt (left - 1) nodes m .statement)) (sym (g .next)) (held .1);
+      all = h .all;
       room = g .size ∙ h .room;
+      notes-are = n;
+      endings-are = e;
     }
 
     module _ {Q : Summary} {two : List ℕ} (i : Summarised (statementAt (left - 1) nodes (P .next)) Q one two) where
@@ -143,7 +150,7 @@ module _ {k : ℕ} {f : ℕ → Statement → Statement → Statement} (S : Spli
           → Summarised (statementAt left nodes at) found kept two
       at-beside found k c p e = found-here here-two (sum-beside g second-found (held .2) found (f (operandOf (getD nodes at 0))) k c p e)
 
-module _ {left : ℕ} {nodes : List ℕ} {at : ℕ} {kept : List ℕ} (h : Summable left nodes at kept) {P : Summary} {one : List ℕ}
+module _ {left : ℕ} {nodes : List ℕ} {at : ℕ} {kept notes endings : List ℕ} (h : Summable left nodes at kept notes endings) {P : Summary} {one : List ℕ}
     (g : Summarised (statementAt (left - 1) nodes (at + 1)) P kept one) {Q : Summary} {two : List ℕ} (i : Summarised (statementAt (left - 1) nodes (P .next)) Q one two)
     (found : Summary) where
   pub at-present : Node left nodes at 6 → outlineOf found ≡ presentOutline (outlineOf P) (outlineOf Q) → Summarised (statementAt left nodes at) found kept two

@@ -1,5 +1,5 @@
 -- The rounds over the nodes of one statement: what they ask, and what they come to.
-use Prim.Native.Nat.{ℕ, _≤_}
+use Prim.Native.Nat.{ℕ}
 use mathlib.Core.Path.{_≡_}
 use mathlib.Core.List.{List}
 use lib.ListN.{length}
@@ -10,7 +10,7 @@ use Rattle.table.specs.Reading.{deepest}
 use Rattle.table.specs.Places.{statementAt}
 use Rattle.reach.specs.declared.Settled.{Settled}
 use Rattle.reach.specs.CodeSets.{codesOf}
-use Rattle.reach.specs.Notes.{Noted}
+use Rattle.reach.specs.Notes.{Noted, Opens}
 
 -- the statement that nodes hold
 abbrev pub statementOf : List ℕ → Statement
@@ -22,15 +22,18 @@ pub record Reaches (nodes : List ℕ) (found : Settled) : Type 0 where
   pub set : found .set ≡ reach (statementOf nodes) .set
   pub rounds : found .rounds ≡ reach (statementOf nodes) .rounds
 
--- to be noted: nodes of a valid statement, with a note for each
-pub record Ready (nodes notes : List ℕ) : Type 0 where
-  pub few : length nodes ≤ 1024
-  pub room : length nodes ≤ length notes
+-- a buffer of nodes that begins with those of a valid statement
+pub record Sound (nodes : List ℕ) : Type 0 where
+  pub all : length nodes ≡ 1024
   pub valid : Valid 0 (statementOf nodes)
 
--- the rounds have come to rest, and the notes are those for the last R
-pub record Rests (nodes : List ℕ) (found : Settled) (notes : List ℕ) : Type 0 where
-  pub start : codesOf (found .start) ≡ s (statementOf nodes)
-  pub set : found .set ≡ reach (statementOf nodes) .set
-  pub rounds : found .rounds ≡ reach (statementOf nodes) .rounds
-  pub noted : Noted (reach (statementOf nodes) .set) deepest nodes notes 0
+-- and room for the notes of each
+pub record Ready (nodes notes endings : List ℕ) : Type 0 where
+  pub sound : Sound nodes
+  pub notes-are : length notes ≡ 1024
+  pub endings-are : length endings ≡ 1024
+
+-- the rounds have come to rest, and the nodes are noted
+pub record Rests (nodes : List ℕ) (found : Settled) (notes endings : List ℕ) : Type 0 where
+  pub reaches : Reaches nodes found
+  pub noted : Noted (Opens notes endings) nodes deepest 0

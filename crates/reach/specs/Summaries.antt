@@ -6,7 +6,7 @@ use mathlib.Core.Bool.{true, cond, _&&_}
 use mathlib.Core.List.{List}
 use lib.ListN.{length, getD}
 use Rattle.sets.specs.Set.{has, only, _union_}
-use Rattle.esterel.specs.Statement.{pauses, Valid}
+use Rattle.esterel.specs.Statement.{Statement, pauses, Valid}
 use Rattle.esterel.specs.Codes.{Codes, join, throughTry, maximum, s, d}
 use Rattle.table.specs.Places.{Placed, statementAt}
 use Rattle.reach.specs.declared.summary.Summary.{Summary}
@@ -55,17 +55,24 @@ sequenceOutline p q =
 unfoldable pub parallelOutline : Outline → Outline → Outline
 parallelOutline p q = outline (maximum (p .start) (q .start)) (p .labels union q .labels) (p .ending union q .ending) (q .next)
 
--- what a pass for summaries asks of the statement at a place: that it is valid, in so many tries
-pub record Summable (left : ℕ) (nodes : List ℕ) (at : ℕ) (kept : List ℕ) : Type 0 where
+-- E has the labels from which alone a statement can end
+abbrev pub EndsAlone : ℕ → Statement → Type 0
+EndsAlone E p = (l : ℕ) → l < 64 → has E l ≡ (has (pauses p) l && d (only l) p .ends)
+
+-- what a pass asks of the statement at a place: that it is valid, in so many tries; and room
+pub record Summable (left : ℕ) (nodes : List ℕ) (at : ℕ) (kept notes endings : List ℕ) : Type 0 where
   pub tries : ℕ
   pub valid : Valid tries (statementAt left nodes at .statement)
+  pub all : length nodes ≡ 1024
   pub room : length kept ≡ 128
+  pub notes-are : length notes ≡ 1024
+  pub endings-are : length endings ≡ 1024
 
 -- it has found the summary of p
 pub record Summarised (p : Placed) (found : Summary) (kept kept′ : List ℕ) : Type 0 where
   pub start : codesOf (found .start) ≡ s (p .statement)
   pub labels : found .pauses ≡ pauses (p .statement)
-  pub ending : (l : ℕ) → l < 64 → has (found .ending) l ≡ (has (pauses (p .statement)) l && d (only l) (p .statement) .ends)
+  pub ending : EndsAlone (found .ending) (p .statement)
   pub next : found .next ≡ p .next
   pub size : length kept′ ≡ length kept
   pub resumed : (l : ℕ) → l < 64 → resumedFrom kept′ l ≡ cond (has (pauses (p .statement)) l) (d (only l) (p .statement)) (resumedFrom kept l)

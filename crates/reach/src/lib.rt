@@ -1,4 +1,5 @@
-// Reach: one pass over the nodes for a summary of the statement, then rounds over it until none adds a label.
+// Reach: one pass over the nodes for a summary of the statement, then rounds over it until none adds a label. The pass leaves
+// notes at the nodes, for trim.
 pub mod codes;
 pub mod pass;
 pub mod summary;
@@ -7,9 +8,8 @@ use codes::CodeSet;
 use table::Checked;
 ghost use mathlib.Core.Path.{_≡_};
 ghost use lib.ListN.{length};
-ghost use Rattle.esterel.specs.Statement.{Valid};
 ghost use Rattle.reach.specs.Answers.{reachOf};
-ghost use Rattle.reach.specs.Rounds.{statementOf, Ready, Reaches, Rests};
+ghost use Rattle.reach.specs.Rounds.{Sound, Ready, Reaches, Rests};
 
 // What the rounds come to: the codes of the started statement, R, and the number of rounds.
 pub struct Settled {
@@ -18,13 +18,18 @@ pub struct Settled {
     pub rounds: u32,
 }
 
-// Rounds until one adds no label, with room lent for the summary. The nodes are passed over once; a round joins what the
-// summary has of the labels that the round before it added.
-fn rounds_with(nodes: &[u16], kept: &mut [u64; 128]) -> Settled
-    requires { ⌜ Valid 0 (statementOf (now nodes)) × (length (now kept) ≡ 128) ⌝ }
-    ensures { λ r. ⌜ Reaches (now (nodes .entry)) r ⌝ }
+// Rounds until one adds no label, with room lent for the summary and the notes. The nodes are passed over once; a round joins
+// what the summary has of the labels that the round before it added.
+fn rounds_with(
+    nodes: &[u16; 1024],
+    kept: &mut [u64; 128],
+    notes: &mut [u16; 1024],
+    endings: &mut [u64; 1024],
+) -> Settled
+    requires { ⌜ Ready (now nodes) (now notes) (now endings) × (length (now kept) ≡ 128) ⌝ }
+    ensures { λ r. ⌜ Rests (now (nodes .entry)) r (now (notes .exit)) (now (endings .exit)) ⌝ }
 {
-    let found = summary::summary_at(nodes, 0, 60, kept);
+    let found = summary::summary_at(nodes, 0, 60, kept, notes, endings);
     let start = found.start;
     let pauses = found.pauses;
     let mut labels = start.labels;
@@ -41,23 +46,24 @@ fn rounds_with(nodes: &[u16], kept: &mut [u64; 128]) -> Settled
     }
 }
 
-// The rounds over the nodes of a statement.
-pub fn rounds_of(nodes: &[u16]) -> Settled
-    requires { ⌜ Valid 0 (statementOf (now nodes)) ⌝ }
-    ensures { λ r. ⌜ Reaches (now (nodes .entry)) r ⌝ }
+// The rounds over the nodes of a statement. Those who walk the nodes with R find at each node with children its note, and the
+// labels from which alone its first child can end.
+pub fn settle(nodes: &[u16; 1024], notes: &mut [u16; 1024], endings: &mut [u64; 1024]) -> Settled
+    requires { ⌜ Ready (now nodes) (now notes) (now endings) ⌝ }
+    ensures { λ r. ⌜ Rests (now (nodes .entry)) r (now (notes .exit)) (now (endings .exit)) ⌝ }
 {
     let mut kept = [0u64; 128];
-    rounds_with(nodes, &mut kept)
+    rounds_with(nodes, &mut kept, notes, endings)
 }
 
-// The rounds, and then a note at each node with children for those who walk them with R.
-pub fn settle(nodes: &[u16], notes: &mut [u16; 1024]) -> Settled
-    requires { ⌜ Ready (now nodes) (now notes) ⌝ }
-    ensures { λ r. ⌜ Rests (now (nodes .entry)) r (now (notes .exit)) ⌝ }
+// The rounds alone.
+fn rounds_of(nodes: &[u16; 1024]) -> Settled
+    requires { ⌜ Sound (now nodes) ⌝ }
+    ensures { λ r. ⌜ Reaches (now (nodes .entry)) r ⌝ }
 {
-    let found = rounds_of(nodes);
-    pass::note_at(nodes, 0, 60, found.set, notes);
-    found
+    let mut notes = [0u16; 1024];
+    let mut endings = [0u64; 1024];
+    settle(nodes, &mut notes, &mut endings)
 }
 
 // Reach's answer.
@@ -75,15 +81,14 @@ pub enum Reached {
 
 // Reach, with room lent for the nodes.
 fn reach_with(table: &[u8], nodes: &mut [u16; 1024]) -> Reached
+    requires { ⌜ length (now nodes) ≡ 1024 ⌝ }
     ensures { λ r. ⌜ r ≡ reachOf (now (table .entry)) ⌝ }
 {
     let checked = table::load(table, nodes);
-    let Checked::Accepted(n) = checked else {
+    let Checked::Accepted(_) = checked else {
         return Reached::Refused(table::refusal(checked));
     };
-    let count = n as usize;
-    let loaded = &nodes[..];
-    let found = rounds_of(&loaded[..count]);
+    let found = rounds_of(nodes);
     let start = found.start;
     Reached::Found {
         ends: codes::ends(start),

@@ -13,6 +13,7 @@ ghost use Rattle.esterel.specs.Codes.{codeOf, justEnded, justAt, justCode, join
 ghost use Rattle.table.specs.Places.{statementAt};
 ghost use Rattle.reach.specs.CodeSets.{codesOf};
 ghost use Rattle.reach.specs.Summaries.{resumedFrom, Changed, Lowered, Gathered, outline, outlineOf, presentOutline, sequenceOutline, parallelOutline, Summable, Summarised};
+ghost use Rattle.reach.specs.Notes.{Wrote, Opened};
 
 // The codes of the started statement, the labels of its pauses, those of them from which it can end, and the place after
 // its last node.
@@ -226,12 +227,33 @@ fn of_try(p: Summary, kept: &mut [u64; 128]) -> Summary
     }
 }
 
-// The summary of the statement at a place, down to the depth that is left. Each node is looked at once.
-pub fn summary_at(nodes: &[u16], at: usize, left: usize, kept: &mut [u64; 128]) -> Summary
-    requires { ⌜ Summable left (now nodes) at (now kept) ⌝ }
-    ensures { λ r. ⌜ Summarised (statementAt left (now (nodes .entry)) at) r (now (kept .entry)) (now (kept .exit)) ⌝ }
+// What was found of a node's first child, noted at the node: the place after it, whether it can end where it is started, and
+// the labels from which alone it can end.
+fn noted(first: Summary, notes: &mut [u16; 1024], endings: &mut [u64; 1024], at: usize) -> Summary
+    requires { ⌜ (at < 1024) × (first .next ≤ 1024) ⌝ }
+    ensures { λ r. ⌜ Wrote first at r (now (notes .entry)) (now (endings .entry)) (now (notes .exit)) (now (endings .exit)) ⌝ }
 {
-    if left == 0 || nodes.len() <= at {
+    let start = first.start;
+    notes[at] = first.next as u16 * 4 + codes::flag(start);
+    endings[at] = first.ending;
+    first
+}
+
+// The summary of the statement at a place, down to the depth that is left. Each node is looked at once; one with children is
+// noted, for those who walk the nodes later.
+pub fn summary_at(
+    nodes: &[u16; 1024],
+    at: usize,
+    left: usize,
+    kept: &mut [u64; 128],
+    notes: &mut [u16; 1024],
+    endings: &mut [u64; 1024],
+) -> Summary
+    requires { ⌜ Summable left (now nodes) at (now kept) (now notes) (now endings) ⌝ }
+    ensures { λ r. ⌜ Summarised (statementAt left (now (nodes .entry)) at) r (now (kept .entry)) (now (kept .exit)) ⌝ }
+    ensures { λ r. ⌜ Opened left (now (nodes .entry)) at (now (notes .entry)) (now (endings .entry)) (now (notes .exit)) (now (endings .exit)) ⌝ }
+{
+    if left == 0 || 1024 <= at {
         return of_nothing(at);
     }
     let node = nodes[at];
@@ -244,22 +266,36 @@ pub fn summary_at(nodes: &[u16], at: usize, left: usize, kept: &mut [u64; 128]) 
         2 => of_gotopause(Label(operand), next),
         3 => of_nothing(next),
         4 => of_exit(Level(operand), next),
-        5 => summary_at(nodes, next, below, kept),
+        5 => {
+            let p = summary_at(nodes, next, below, kept, notes, endings);
+            noted(p, notes, endings, at)
+        }
         6 => {
-            let p = summary_at(nodes, next, below, kept);
-            of_present(p, summary_at(nodes, p.next, below, kept))
+            let p = summary_at(nodes, next, below, kept, notes, endings);
+            let first = noted(p, notes, endings, at);
+            let q = summary_at(nodes, first.next, below, kept, notes, endings);
+            of_present(first, q)
         }
         7 => {
-            let p = summary_at(nodes, next, below, kept);
-            let q = summary_at(nodes, p.next, below, kept);
-            of_sequence(p, q, kept)
+            let p = summary_at(nodes, next, below, kept, notes, endings);
+            let first = noted(p, notes, endings, at);
+            let q = summary_at(nodes, first.next, below, kept, notes, endings);
+            of_sequence(first, q, kept)
         }
         8 => {
-            let p = summary_at(nodes, next, below, kept);
-            of_parallel(p, summary_at(nodes, p.next, below, kept))
+            let p = summary_at(nodes, next, below, kept, notes, endings);
+            let first = noted(p, notes, endings, at);
+            let q = summary_at(nodes, first.next, below, kept, notes, endings);
+            of_parallel(first, q)
         }
-        9 => of_loop(summary_at(nodes, next, below, kept), kept),
-        10 => of_try(summary_at(nodes, next, below, kept), kept),
+        9 => {
+            let p = summary_at(nodes, next, below, kept, notes, endings);
+            of_loop(noted(p, notes, endings, at), kept)
+        }
+        10 => {
+            let p = summary_at(nodes, next, below, kept, notes, endings);
+            of_try(noted(p, notes, endings, at), kept)
+        }
         11..=15 => of_nothing(next),
         _ => of_nothing(next),
     }

@@ -16,33 +16,45 @@ use Rattle.reach.proofs.rounds_with.Statement.{statement}
 use Rattle.reach.proofs.rounds_with.Tie as tie
 
 abbrev Inv-loop : tie.InvT-loop
-Inv-loop nodes kept start pauses labels₀ set₀ rounds₀ labels set rounds = Going (statementOf nodes) labels set rounds
+Inv-loop nodes kept notes endings start pauses labels₀ set₀ rounds₀ labels set rounds = Going (statementOf nodes) labels set rounds
 
 abbrev μ-loop : tie.MeasureT-loop
-μ-loop nodes kept start pauses labels₀ set₀ rounds₀ labels set rounds = count 64 pauses - count 64 set
+μ-loop nodes kept notes endings start pauses labels₀ set₀ rounds₀ labels set rounds = count 64 pauses - count 64 set
 
 summary-at-requires : tie.Need-summary-at-requires Inv-loop μ-loop
-summary-at-requires c κs = let a = c .before .before in record { tries = 0; valid = a .pre .0; room = a .pre .1 }
+summary-at-requires c κs =
+    let (r, k) = c .before .before .before .pre in
+    record { tries = 0; valid = r .sound .valid; all = r .sound .all; room = k; notes-are = r .notes-are; endings-are = r .endings-are }
 
 loop-holds : tie.Need-loop-holds Inv-loop μ-loop
 unfolding labels codesOf
-loop-holds c = none-yet (statementOf (c .before .before .before .before .args .nodes .now)) _ (ap (λ (K : Codes). K .pausing) (c .before .summary-at .ensures .start))
+loop-holds c = none-yet (statementOf (c .before .before .before .before .before .args .nodes .now)) _ (ap (λ (K : Codes). K .pausing) (c .before .summary-at .ensures .0 .start))
 
 add-rounds : tie.Need-add-rounds Inv-loop μ-loop
-add-rounds c = omega (arith, few-rounds (statementOf (c .before .before .before .before .before .args .nodes .now)) (c .loop .labels) (c .loop .set) (c .loop .rounds) (c .loop .inv))
+add-rounds c = omega (arith, few-rounds (statementOf (c .before .before .before .before .before .before .args .nodes .now)) (c .loop .labels) (c .loop .set) (c .loop .rounds) (c .loop .inv))
 
 labels-from-requires : tie.Need-labels-from-requires Inv-loop μ-loop
 labels-from-requires c κs = tt
 
 loop-less : tie.Need-loop-less Inv-loop μ-loop
-loop-less c = let l = c .before .before .before in falls (statementAt deepest (l .before .before .before .before .before .args .nodes .now) 0) (l .before .before .summary-at .result) (l .before .before .before .before .before .args .kept .now) _ (l .before .before .summary-at .ensures) (search needs) (l .loop .labels) (l .loop .set) (l .loop .rounds) (l .loop .inv) (c .before .before .if1 .left)
+loop-less c =
+    let l = c .before .before .before .loop in
+    falls (statementAt deepest (c .before .before .before .before .before .before .before .before .before .args .nodes .now) 0) (c .before .before .before .before .before .summary-at .result) (c .before .before .before .before .before .before .before .before .before .args .kept .now) _ (c .before .before .before .before .before .summary-at .ensures .0) (search needs) (l .labels) (l .set) (l .rounds) (l .inv) (c .before .before .if1 .left)
 
 loop-again : tie.Need-loop-again Inv-loop μ-loop
 unfolding _union_
-loop-again c = let l = c .before .before .before in goes-on (statementAt deepest (l .before .before .before .before .before .args .nodes .now) 0) (l .before .before .summary-at .result) (l .before .before .before .before .before .args .kept .now) _ (l .before .before .summary-at .ensures) (search needs) (l .loop .labels) (l .loop .set) (l .loop .rounds) (l .loop .inv) (c .before .before .if1 .left) (c .labels-from .result) (c .labels-from .ensures)
+loop-again c =
+    let l = c .before .before .before .loop in
+    goes-on (statementAt deepest (c .before .before .before .before .before .before .before .before .before .args .nodes .now) 0) (c .before .before .before .before .before .summary-at .result) (c .before .before .before .before .before .before .before .before .before .args .kept .now) _ (c .before .before .before .before .before .summary-at .ensures .0) (search needs) (l .labels) (l .set) (l .rounds) (l .inv) (c .before .before .if1 .left)
+    (c .labels-from .result) (c .labels-from .ensures)
 
 returns : tie.Need-returns Inv-loop μ-loop
-returns c = let l = c .before in rests (l .before .before .before .before .before .args .nodes .now) (l .before .before .summary-at .result) (l .before .before .before .before .before .args .kept .now) _ (l .before .before .summary-at .ensures) (search needs) (l .loop .labels) (l .loop .set) (l .loop .rounds) (l .loop .inv) (c .if1 .taken)
+returns c =
+    let l = c .before .loop in
+    record {
+      reaches = rests (c .before .before .before .before .before .before .before .args .nodes .now) (c .before .before .before .summary-at .result) (c .before .before .before .before .before .before .before .args .kept .now) _ (c .before .before .before .summary-at .ensures .0) (search needs) (l .labels) (l .set) (l .rounds) (l .inv) (c .if1 .taken);
+      noted = c .before .before .before .summary-at .ensures .1 .noted;
+    }
 
 pub rounds-with-spec : {M : Type 1} → statement M
 rounds-with-spec = tie.close (tie.spec Inv-loop μ-loop summary-at-requires loop-holds add-rounds labels-from-requires loop-less loop-again returns)
