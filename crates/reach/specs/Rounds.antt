@@ -36,4 +36,5 @@ pub record Ready (nodes notes endings : List ℕ) : Type 0 where
 -- the rounds have come to rest, and the nodes are noted
 pub record Rests (nodes : List ℕ) (found : Settled) (notes endings : List ℕ) : Type 0 where
   pub reaches : Reaches nodes found
+  pub size : length notes ≡ 1024
   pub noted : Noted (Opens notes endings) nodes deepest 0

@@ -1,6 +1,6 @@
 -- `reach::rounds_with` meets its contract. The invariant: R is that of the rounds made, each of which added a label, with the
 -- labels of s and of d over R. The measure is the number of labels that can still be added.
-use mathlib.Core.Path.{ap}
+use mathlib.Core.Path.{ap, _∙_}
 use Prim.Native.Nat.{_-_}
 use native.Mathlib.Omega.{arith}
 use borrow.Author.Needs.{needs}
@@ -53,6 +53,7 @@ returns c =
     let l = c .before .loop in
     record {
       reaches = rests (c .before .before .before .before .before .before .before .args .nodes .now) (c .before .before .before .summary-at .result) (c .before .before .before .before .before .before .before .args .kept .now) _ (c .before .before .before .summary-at .ensures .0) (search needs) (l .labels) (l .set) (l .rounds) (l .inv) (c .if1 .taken);
+      size = c .before .before .before .summary-at .ensures .1 .notes-from .size ∙ c .before .before .before .before .before .before .before .pre .0 .notes-are;
       noted = c .before .before .before .summary-at .ensures .1 .noted;
     }
 
