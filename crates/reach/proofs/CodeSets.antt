@@ -12,7 +12,7 @@ use lib.Dec.{eqb}
 use lib.Pow.{pow-lt}
 use Rattle.sets.specs.Set.{has, only, _union_}
 use Rattle.sets.proofs.Booleans.{clash, eqb-differ}
-use Rattle.sets.proofs.Members.{has-union, has-shift, bit}
+use Rattle.sets.proofs.Members.{has-union, bit}
 use Rattle.esterel.specs.Codes.{Codes, none, justEnded, justAt, justCode, join, minusZero, throughTry, hasLow, notBelow, noLowerThan}
 use Rattle.esterel.proofs.Codes.{join-none}
 use Rattle.reach.specs.declared.codes.CodeSet.{CodeSet}
@@ -28,11 +28,7 @@ codes z l h = record { ends = z; pausing = l; higher = h }
 parts : {z z′ : Bool} {l l′ h h′ : ℕ} → z ≡ z′ → l ≡ l′ → h ≡ h′ → codes z l h ≡ codes z′ l′ h′
 parts e f g = rw (e, f, g)
 
--- ---- one code, or none
-pub view-none : codesOf (words 0 0) ≡ none
-unfolding codesOf none has
-view-none = refl
-
+-- ---- one code
 pub view-ended : codesOf (words 0 1) ≡ justEnded
 unfolding codesOf justEnded has
 view-ended = refl
@@ -76,14 +72,6 @@ pub flag-small : (b : Bool) → flagOf b ≤ 1
 unfolding flagOf
 flag-small true = omega arith
 flag-small false = omega arith
-
-pub view-bit : (R l : ℕ) → codesOf (words 0 (bitAnd (R / 2 ^ l) 1)) ≡ cond (has R l) justEnded none
-unfolding flagOf
-view-bit R l = ap (λ (n : ℕ). codesOf (words 0 n)) (low-bit (R / 2 ^ l) ∙ ap flagOf (sym (has-shift R l))) ∙ go (has R l)
-  where
-    go : (b : Bool) → codesOf (words 0 (flagOf b)) ≡ cond b justEnded none
-    go true = view-ended
-    go false = view-none
 
 -- ---- join, minus 0, through a try
 or-up : (x y : ℕ) → bitOr x y * 4 ≡ bitOr (x * 4) (y * 4)

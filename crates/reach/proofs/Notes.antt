@@ -145,7 +145,7 @@ module _ {left : ℕ} {nodes : List ℕ} {at k : ℕ} (n : Node left nodes at k)
     unfolding openNote
     own = (
       ap (λ (l : List ℕ). getD l at 0) (w .note) ∙ getD-set-same notes₁ at note 0 (omega (arith, n .inside, room .all, o .notes-from .size, room .notes-are))
-      ∙ ap₂ (λ (m : ℕ) (K : Codes). m * 4 + flagOf (K .ends)) (h .next) (h .start),
+          ∙ ap₂ (λ (m : ℕ) (K : Codes). m * 4 + flagOf (K .ends)) (h .next) (h .start),
       λ l b. ap (λ (m : ℕ). has m l) (ap (λ (l : List ℕ). getD l at 0) (w .ending) ∙ getD-set-same endings₁ at (P .ending) 0 (omega (arith, n .inside, room .all, o .endings-from .size, room .endings-are)))
           ∙ h .ending l b,
     )
@@ -201,39 +201,36 @@ module _ {left : ℕ} {nodes : List ℕ} {at k : ℕ} (n : Node left nodes at k)
       (omega (arith, n .inside, room .all), omega (arith, w, h .next, room .all))
 
 -- ---- What a note says
-pub second-note : (R : ℕ) (p : Placed) → secondOf (noteOf R p) ≡ p .next
-unfolding secondOf noteOf
-second-note R p = let f = flag-small (d R (p .statement) .ends) in let g = flag-small (s (p .statement) .ends) in omega arith
-
 has-flag : (b : Bool) → eqb (flagOf b) 1 ≡ b
 unfolding flagOf
 has-flag true = refl
 has-flag false = refl
 
-module _ (R : ℕ) (p : Placed) where
-  abbrev resumed : Bool
-  resumed = d R (p .statement) .ends
+-- a place, and two flags behind it
+module _ (e : ℕ) (x y : Bool) where
+  pub flags-place : secondOf (e * 4 + flagOf x * 2 + flagOf y) ≡ e
+  unfolding secondOf
+  flags-place = omega (arith, flag-small x, flag-small y)
 
-  abbrev start : Bool
-  start = s (p .statement) .ends
+  pub flags-high : has (e * 4 + flagOf x * 2 + flagOf y) 1 ≡ x
+  unfolding has
+  flags-high =
+      let h : (e * 4 + flagOf x * 2 + flagOf y) / 2 % 2 ≡ flagOf x = omega (arith, flag-small x, flag-small y) in
+      ap (λ (n : ℕ). eqb n 1) h ∙ has-flag x
 
-  resumed-note : has (noteOf R p) 1 ≡ resumed
-  unfolding has noteOf
-  resumed-note =
-      let f = flag-small resumed in
-      let g = flag-small start in
-      let e : (p .next * 4 + flagOf resumed * 2 + flagOf start) / 2 % 2 ≡ flagOf resumed = omega arith in
-      ap (λ (n : ℕ). eqb n 1) e ∙ has-flag resumed
+  pub flags-low : has (e * 4 + flagOf x * 2 + flagOf y) 0 ≡ y
+  unfolding has
+  flags-low =
+      let h : (e * 4 + flagOf x * 2 + flagOf y) % 2 ≡ flagOf y = omega (arith, flag-small y) in
+      ap (λ (n : ℕ). eqb n 1) h ∙ has-flag y
 
-  start-note : has (noteOf R p) 0 ≡ start
-  unfolding has noteOf
-  start-note =
-      let g = flag-small start in
-      let e : (p .next * 4 + flagOf resumed * 2 + flagOf start) % 2 ≡ flagOf start = omega arith in
-      ap (λ (n : ℕ). eqb n 1) e ∙ has-flag start
+pub second-note : (R : ℕ) (p : Placed) → secondOf (noteOf R p) ≡ p .next
+unfolding noteOf
+second-note R p = flags-place (p .next) (d R (p .statement) .ends) (s (p .statement) .ends)
 
 -- "0 is in C"
 pub ends-note : (R : ℕ) (b : Bool) (p : Placed) → endsOf (noteOf R p) b ≡ canEnd R b (p .statement)
-unfolding endsOf canEnd join
-ends-note R true p = ap₂ _||_ (resumed-note R p) (start-note R p)
-ends-note R false p = resumed-note R p
+unfolding endsOf canEnd join noteOf
+ends-note R true p =
+    ap₂ _||_ (flags-high (p .next) (d R (p .statement) .ends) (s (p .statement) .ends)) (flags-low (p .next) (d R (p .statement) .ends) (s (p .statement) .ends))
+ends-note R false p = flags-high (p .next) (d R (p .statement) .ends) (s (p .statement) .ends)

@@ -23,7 +23,6 @@ use Rattle.esterel.proofs.Codes.{contains-none, contains-left, contains-right, 
 use Rattle.esterel.proofs.Reachability.{d-union, d-mono, round-adds, reach-unique, afterRounds-pauses, afterRounds-grows}
 use Rattle.table.specs.Reading.{deepest}
 use Rattle.table.specs.Places.{Placed, statementAt}
-use Rattle.reach.specs.declared.Settled.{Settled}
 use Rattle.reach.specs.declared.summary.Summary.{Summary}
 use Rattle.reach.specs.CodeSets.{followedBy}
 use Rattle.reach.specs.Summaries.{resumedFrom, Gathered, EndsAlone, Summarised}

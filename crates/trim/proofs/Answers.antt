@@ -17,12 +17,11 @@ use Rattle.table.specs.declared.Checked.{Checked}
 use Rattle.table.specs.declared.Checked.the-variants as checked
 use Rattle.table.specs.Bits.{Below}
 use Rattle.table.specs.Reading as reading
-use Rattle.table.specs.Reading.{Table, refused, holds, tableOf, checkOf, nodesOf, deepest}
+use Rattle.table.specs.Reading.{Table, refused, holds, tableOf, checkOf, deepest}
 use Rattle.table.specs.Loading.{loadedOf}
 use Rattle.table.specs.Places.{Placed}
 use Rattle.table.specs.Writing.{nodes, write, Allowed}
 use Rattle.table.proofs.Accepted.{accepted, check-accepted}
-use Rattle.table.proofs.Cutting.{length-nodesOf}
 use Rattle.table.proofs.Loading.{placed-loaded}
 use Rattle.table.proofs.Nodes.{length-nodes}
 use Rattle.table.proofs.RoundTrip.{below-nodes, valid-ranged, read-written}

@@ -109,5 +109,13 @@ pub fn trim(table: &[u8], out: &mut [u8]) -> Trimmed
     let mut endings = [0u64; 1024];
     let mut places = [0u8; 64];
     let mut work = [0u16; 4096];
-    trim_with(table, out, &mut nodes, &mut notes, &mut endings, &mut places, &mut work)
+    trim_with(
+        table,
+        out,
+        &mut nodes,
+        &mut notes,
+        &mut endings,
+        &mut places,
+        &mut work,
+    )
 }

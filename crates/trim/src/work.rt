@@ -41,7 +41,14 @@ fn deeper(a: u8, b: u8) -> u8
 }
 
 // A statement of one node, or nothing.
-pub fn put_if(work: &mut [u16; 4096], to: usize, keep: bool, kind: u16, operand: u8, named: u64) -> Part
+pub fn put_if(
+    work: &mut [u16; 4096],
+    to: usize,
+    keep: bool,
+    kind: u16,
+    operand: u8,
+    named: u64,
+) -> Part
     requires { ⌜ (1 ≤ to) × (to ≤ 4096) × (to ≤ length (now work)) × (kind < 16) ⌝ }
     ensures { λ r. ⌜ LeafPut (nodeOf kind operand) named keep (now (work .entry)) to r (now (work .exit)) ⌝ }
 {
@@ -72,7 +79,14 @@ pub fn fill(work: &mut [u16; 4096], p: Part, to: usize) -> Part
 }
 
 // The part alone, or a statement over it.
-pub fn wrap_if(work: &mut [u16; 4096], p: Part, to: usize, wrap: bool, kind: u16, operand: u8) -> Part
+pub fn wrap_if(
+    work: &mut [u16; 4096],
+    p: Part,
+    to: usize,
+    wrap: bool,
+    kind: u16,
+    operand: u8,
+) -> Part
     requires { ⌜ (2 ≤ p .from) × (p .from ≤ 4096) × (p .depth ≤ 200) × (kind < 16) ⌝ }
     ensures { λ r. ⌜ Wrapped (nodeOf kind operand) wrap (now (work .entry)) to p r (now (work .exit)) ⌝ }
 {
