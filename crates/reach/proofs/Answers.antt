@@ -1,12 +1,12 @@
--- The answer of reach, from what loading and the rounds gave: on an accepted table the nodes in front hold its statement, so
--- the rounds over them are those of reach. And the answer loses nothing: s has no higher code.
-use mathlib.Core.Path.{_≡_, refl, sym, ap, _∙_, subst}
+-- The answer of reach, from what loading and the rounds gave: on an accepted table the buffer holds its statement, whatever
+-- stands behind the nodes, so the rounds are those of reach. And the answer loses nothing: s has no higher code.
+use mathlib.Core.Path.{_≡_, refl, sym, ap, ap₂, _∙_, subst}
 use mathlib.Core.Bool.{Bool}
 use mathlib.Core.List.{List}
-use Prim.Native.Nat.{ℕ, suc, _≤_}
+use Prim.Native.Nat.{ℕ, suc, _+_, _≤_}
 use native.Mathlib.Omega.{arith}
-use lib.ListN.{length, take}
-use Rattle.esterel.specs.Statement.{Statement, LevelsFromOne, pauseCount}
+use lib.ListN.{length, drop, length-drop, length-append}
+use Rattle.esterel.specs.Statement.{Statement, Valid, pauseCount}
 use Rattle.esterel.specs.Codes.{Codes, labels, s}
 use Rattle.esterel.specs.Reachability as rounds
 use Rattle.esterel.proofs.Codes.{codes-equal}
@@ -17,33 +17,29 @@ use Rattle.table.specs.declared.Checked.{Checked}
 use Rattle.table.specs.declared.Checked.the-variants as checked
 use Rattle.table.specs.Reading as reading
 use Rattle.table.specs.Reading.{Table, refused, holds, tableOf, checkOf, nodesOf}
-use Rattle.table.specs.Loading.{loadedOf}
+use Rattle.table.specs.Loading.{loadedAfter, loadedOf}
 use Rattle.table.specs.Places.{Placed}
-use Rattle.table.proofs.Accepted.{accepted}
+use Rattle.table.proofs.Accepted.{accepted, check-accepted}
 use Rattle.table.proofs.Cutting.{length-nodesOf}
-use Rattle.table.proofs.Loading.{load-accepted}
-use Rattle.table.proofs.Places.{placed-table}
+use Rattle.table.proofs.Loading.{placed-loaded}
 use Rattle.reach.specs.declared.Reached.the-variants.{Refused, Found}
 use Rattle.reach.specs.declared.Settled.{Settled}
 use Rattle.reach.specs.CodeSets.{codesOf}
-use Rattle.reach.specs.Rounds.{statementOf, Ready, Rests}
+use Rattle.reach.specs.Rounds.{statementOf, Sound, Reaches}
 use Rattle.reach.specs.Answers.{foundOf, answerOf, reachOf}
 
--- ---- The nodes of an accepted table
-module _ (t : List ℕ) (n : ℕ) (p : Statement) (h : tableOf t ≡ holds n p) where
-  pub table-statement : statementOf (nodesOf t n) ≡ p
-  table-statement = ap (λ (x : Placed). x .statement) (placed-table t n p h)
+-- ---- The buffer with the nodes of an accepted table
+module _ (t old : List ℕ) (n : ℕ) (p : Statement) (h : tableOf t ≡ holds n p) where
+  pub loaded-statement : statementOf (loadedOf t old) ≡ p
+  loaded-statement = ap (λ (x : Placed). x .statement) (placed-loaded t old n p h)
 
-  pub table-ready : (notes : List ℕ) → length notes ≡ 1024 → Ready (nodesOf t n) notes
-  table-ready notes l =
-      let few = accepted t n p h .header .few in
-      let count = length-nodesOf t n in
-      record {
-        few = omega arith;
-        room = omega arith;
-        whole = ap (λ (x : Placed). x .next) (placed-table t n p h) ∙ sym count;
-        levels = subst LevelsFromOne (sym table-statement) (valid-levels 0 p (accepted t n p h .valid));
-      }
+  pub loaded-length : length old ≡ 1024 → length (loadedOf t old) ≡ 1024
+  unfolding loadedOf loadedAfter
+  loaded-length l =
+      let a = accepted t n p h in
+      let few = a .header .few in
+      ap (λ (c : Checked). length (loadedAfter c t old)) (a .counted) ∙ length-append (nodesOf t n) (drop n old)
+      ∙ ap₂ _+_ (length-nodesOf t n) (length-drop n old) ∙ (omega arith)
 
 -- ---- The answer
 module _ (t old new : List ℕ) (c : Checked) (h : (c ≡ checkOf t) × (new ≡ loadedOf t old)) where
@@ -56,25 +52,27 @@ module _ (t old new : List ℕ) (c : Checked) (h : (c ≡ checkOf t) × (new ≡
       go (holds n p) q = absurd (let z : _≡_ {A = ℕ} 0 1 = cc in omega arith)
 
   module _ (n : ℕ) (e : c ≡ checked.Accepted n) where
-    held : (p : Statement) × (tableOf t ≡ holds n p) × (take n new ≡ nodesOf t n)
-    held = load-accepted t old new n (sym (h .0) ∙ e) (h .1)
+    held : (p : Statement) × (tableOf t ≡ holds n p)
+    held = check-accepted t n (sym (h .0) ∙ e)
 
-    pub part-length : n ≡ length (take n new)
-    part-length = sym (ap length (held .2) ∙ length-nodesOf t n)
+    is : statementOf new ≡ held .0
+    is = ap statementOf (h .1) ∙ loaded-statement t old n (held .0) (held .1)
 
-    pub part-ready : (notes : List ℕ) → length notes ≡ 1024 → Ready (take n new) notes
-    part-ready notes l = subst (λ (xs : List ℕ). Ready xs notes) (sym (held .2)) (table-ready t n (held .0) (held .1) notes l)
+    pub loaded-sound : length old ≡ 1024 → Sound new
+    loaded-sound l = record {
+      all = ap length (h .1) ∙ loaded-length t old n (held .0) (held .1) l;
+      valid = subst (Valid 0) (sym is) (accepted t n (held .0) (held .1) .valid);
+    }
 
-    pub reach-found : (found : Settled) (notes : List ℕ) → Rests (take n new) found notes → (ends : Bool) → ends ≡ codesOf (found .start) .ends
+    pub reach-found : (found : Settled) → Reaches new found → (ends : Bool) → ends ≡ codesOf (found .start) .ends
         → Found ends (found .start .labels) (found .set) (found .rounds) ≡ reachOf t
     unfolding reachOf answerOf foundOf labels codesOf
-    reach-found found notes r ends b =
-        let now : statementOf (take n new) ≡ held .0 = ap statementOf (held .2) ∙ table-statement t n (held .0) (held .1) in
-        let ends-are : ends ≡ s (statementOf (take n new)) .ends = b ∙ ap (λ (K : Codes). K .ends) (r .start) in
-        let labels-are : found .start .labels ≡ s (statementOf (take n new)) .pausing = ap (λ (K : Codes). K .pausing) (r .start) in
+    reach-found found r ends b =
+        let ends-are : ends ≡ s (statementOf new) .ends = b ∙ ap (λ (K : Codes). K .ends) (r .start) in
+        let labels-are : found .start .labels ≡ s (statementOf new) .pausing = ap (λ (K : Codes). K .pausing) (r .start) in
         let set-is = r .set in
         let rounds-are = r .rounds in
-        rw (ends-are, labels-are, set-is, rounds-are, now) (sym (ap answerOf (held .1)))
+        rw (ends-are, labels-are, set-is, rounds-are, is) (sym (ap answerOf (held .1)))
 
 -- ---- What it tells of a table
 module _ (t : List ℕ) (n : ℕ) (p : Statement) (h : tableOf t ≡ holds n p) where

@@ -3,7 +3,7 @@
 use mathlib.Core.Path.{_≡_, refl, sym, ap, ap₂, _∙_}
 use mathlib.Core.Logic.{_≢_, _⊎_, inl, inr}
 use mathlib.Core.Bool.{Bool, true, false, cond, not, _&&_, _||_}
-use Prim.Native.Nat.{ℕ, zero, suc, _+_, _-_, _*_, _/_, _%_, _^_, _≤_, _<_, suc-le-suc, zero-le}
+use Prim.Native.Nat.{ℕ, zero, suc, _+_, _-_, _*_, _/_, _%_, _^_, _≤_, _<_}
 use native.Mathlib.Nat.{mod-eq-of-lt, one-mul, pow-suc, mul-comm, div-div-eq-div-mul, div-mul-le-self}
 use native.Mathlib.Omega.{arith}
 use lib.Bits.{bitOr, bitAnd, and-mask, or-shr, or-block, or-zero-l}
@@ -12,7 +12,7 @@ use lib.Dec.{eqb}
 use lib.Pow.{pow-lt}
 use Rattle.sets.specs.Set.{has, only, _union_}
 use Rattle.sets.proofs.Booleans.{clash, eqb-differ}
-use Rattle.sets.proofs.Members.{has-union, has-shift, bit}
+use Rattle.sets.proofs.Members.{has-union, bit}
 use Rattle.esterel.specs.Codes.{Codes, none, justEnded, justAt, justCode, join, minusZero, throughTry, hasLow, notBelow, noLowerThan}
 use Rattle.esterel.proofs.Codes.{join-none}
 use Rattle.reach.specs.declared.codes.CodeSet.{CodeSet}
@@ -28,11 +28,7 @@ codes z l h = record { ends = z; pausing = l; higher = h }
 parts : {z z′ : Bool} {l l′ h h′ : ℕ} → z ≡ z′ → l ≡ l′ → h ≡ h′ → codes z l h ≡ codes z′ l′ h′
 parts e f g = rw (e, f, g)
 
--- ---- one code, or none
-pub view-none : codesOf (words 0 0) ≡ none
-unfolding codesOf none has
-view-none = refl
-
+-- ---- one code
 pub view-ended : codesOf (words 0 1) ≡ justEnded
 unfolding codesOf justEnded has
 view-ended = refl
@@ -76,14 +72,6 @@ pub flag-small : (b : Bool) → flagOf b ≤ 1
 unfolding flagOf
 flag-small true = omega arith
 flag-small false = omega arith
-
-pub view-bit : (R l : ℕ) → codesOf (words 0 (bitAnd (R / 2 ^ l) 1)) ≡ cond (has R l) justEnded none
-unfolding flagOf
-view-bit R l = ap (λ (n : ℕ). codesOf (words 0 n)) (low-bit (R / 2 ^ l) ∙ ap flagOf (sym (has-shift R l))) ∙ go (has R l)
-  where
-    go : (b : Bool) → codesOf (words 0 (flagOf b)) ≡ cond b justEnded none
-    go true = view-ended
-    go false = view-none
 
 -- ---- join, minus 0, through a try
 or-up : (x y : ℕ) → bitOr x y * 4 ≡ bitOr (x * 4) (y * 4)
@@ -138,11 +126,11 @@ unfolding followedBy minusZero
 stops K K′ h = parts h refl refl ∙ sym (ap (λ (z : Bool). join (minusZero K) (cond z K′ none)) h ∙ join-none (minusZero K))
 
 -- ---- the maximum: the members of a that are no lower than some member of m
-and-true : (b : Bool) → (b && true) ≡ b
+pub and-true : (b : Bool) → (b && true) ≡ b
 and-true true = refl
 and-true false = refl
 
-and-false : (b : Bool) → (b && false) ≡ false
+pub and-false : (b : Bool) → (b && false) ≡ false
 and-false true = refl
 and-false false = refl
 
@@ -181,18 +169,6 @@ unfolding notBelow
 notBelow-empty zero a = refl
 notBelow-empty (suc n) zero = refl
 notBelow-empty (suc n) (suc a) = ap (λ (x : ℕ). x * 2) (notBelow-empty n (suc a / 2))
-
-under-lt : (d m k : ℕ) → (d ≡ 0 → m < k) → under d m < suc k
-under-lt zero m k h = suc-le-suc (h refl)
-under-lt (suc d) m k h = suc-le-suc zero-le
-
--- a set that is not empty has its lowest member within the width
-pub lowest-within : (w m : ℕ) → m < 2 ^ w → m ≢ 0 → trailingZeros w m < w
-unfolding trailingZeros
-lowest-within zero m h z = absurd (z (omega arith))
-lowest-within (suc w) m h z =
-    let g : m < 2 ^ w * 2 = rw (pow-suc 2 w) at h in
-    under-lt (m % 2) (trailingZeros w (m / 2)) w (λ e. lowest-within w (m / 2) (omega arith) (λ q. z (omega arith)))
 
 -- by what K′ has of 0 and of the labels
 choose : (K K′ : Codes) (z l : Bool) → K′ .ends ≡ z → hasLow K′ ≡ l

@@ -1,6 +1,8 @@
 pub mod CodeSets
 pub mod Nodes
-pub mod Passes
 pub mod Notes
+pub mod Summaries
+pub mod Summing
+pub mod SummedNodes
 pub mod Rounds
 pub mod Answers

@@ -3,7 +3,7 @@
 use mathlib.Core.Path.{_≡_, refl, ap, _∙_}
 use mathlib.Core.Logic.{_≢_, _⊎_, inl, inr}
 use mathlib.Core.List.{List}
-use Prim.Native.Nat.{ℕ, zero, suc, _+_, _-_, _≤_, _<_}
+use Prim.Native.Nat.{ℕ, zero, suc, _+_, _-_, _≤_, _<_, zero-le}
 use native.Mathlib.Nat.{le-trans}
 use native.Mathlib.Numerals.{sub-one}
 use native.Mathlib.Omega.{arith}
@@ -50,6 +50,14 @@ unfolding kindOf kinds
 kind-unused k h =
     let e : k ≡ suc (suc (suc (suc (suc (suc (suc (suc (suc (suc (suc (k - 11))))))))))) = omega arith in
     ap kindOf e ∙ all-same Kind.unused 5 (k - 11)
+
+-- none of the kinds 0 to 10
+up : (m k : ℕ) → m ≤ k → (k ≡ m → ⊥) → suc m ≤ k
+up m k h f = omega arith
+
+pub above-ten : (k : ℕ) → (k ≡ 0 → ⊥) → (k ≡ 1 → ⊥) → (k ≡ 2 → ⊥) → (k ≡ 3 → ⊥) → (k ≡ 4 → ⊥) → (k ≡ 5 → ⊥) → (k ≡ 6 → ⊥) → (k ≡ 7 → ⊥) → (k ≡ 8 → ⊥) → (k ≡ 9 → ⊥) → (k ≡ 10 → ⊥) → 11 ≤ k
+above-ten k n0 n1 n2 n3 n4 n5 n6 n7 n8 n9 n10 =
+    up 10 k (up 9 k (up 8 k (up 7 k (up 6 k (up 5 k (up 4 k (up 3 k (up 2 k (up 1 k (up 0 k zero-le n0) n1) n2) n3) n4) n5) n6) n7) n8) n9) n10
 
 -- ---- The place after a statement
 -- the place after n statements that stand one after the other

@@ -1,183 +1,236 @@
--- A pass writes within the places of its statement only, so the note that it leaves at a node stays while it goes on; after
--- it every node with children has its note, and the note says what a trimmer asks.
-use mathlib.Core.Path.{_≡_, refl, ap, ap₂, _∙_}
-use mathlib.Core.Logic.{_≢_}
+-- Notes at the nodes: what they say of a node and of those below it, that they stay where nothing else is written, and that a
+-- pass leaves them at every node with children.
+use mathlib.Core.Path.{_≡_, refl, sym, ap, ap₂, _∙_, subst}
+use mathlib.Core.Logic.{_≢_, _⊎_, inl, inr}
 use mathlib.Core.Bool.{Bool, true, false, _||_}
 use mathlib.Core.List.{List}
 use Prim.Native.Nat.{ℕ, zero, suc, _+_, _-_, _*_, _/_, _%_, _≤_, _<_}
+use native.Mathlib.Decide.{decLe}
 use native.Mathlib.Numerals.{sub-one}
 use native.Mathlib.Omega.{arith}
-use lib.Dec.{eqb, ltb}
-use lib.ListN.{length, getD, set, length-set}
+use lib.Dec.{eqb}
+use lib.ListN.{length, getD, set, length-set, List·getD-eq-default}
 use lib.Seq.{getD-set-same, getD-set-other}
 use borrow.Author.Tests.{lt-ltb}
 use Rattle.sets.specs.Set.{has}
-use Rattle.esterel.specs.Codes.{join}
+use Rattle.esterel.specs.Codes.{Codes, join, s, d}
 use Rattle.esterel.specs.Trimming.{canEnd}
-use Rattle.table.specs.Kinds.{kindOf, rowOf}
+use Rattle.table.specs.Kinds.{kinds, kindOf, rowOf}
 use Rattle.table.specs.Reading.{kindOfNode, operandOf}
 use Rattle.table.specs.Places.{Placed, statementAt}
-use Rattle.reach.specs.CodeSets.{flagOf}
-use Rattle.reach.specs.Analysis.{Analysed, analysedOf}
-use Rattle.reach.specs.Notes.{noteOf, noteBelow, notesAfter, NotedBelow, Noted, secondOf, endsOf}
+use Rattle.reach.specs.declared.summary.Summary.{Summary}
+use Rattle.reach.specs.CodeSets.{codesOf, flagOf}
+use Rattle.reach.specs.Summaries.{Summable, Summarised}
+use Rattle.reach.specs.Notes.{forChildren, Noted, openNote, Opens, Wrote, From, Opened, noteOf, secondOf, endsOf}
 use Rattle.reach.proofs.CodeSets.{flag-small}
-use Rattle.reach.proofs.Nodes.{Node, follow, follow-forward, place-next, next-forward}
+use Rattle.reach.proofs.Nodes.{Node, follow, follow-forward, place-next, next-forward, next-within}
 
--- ---- What a pass leaves alone
--- from `at` to `next` a pass may write
-pub record Between (at next : ℕ) (notes notes′ : List ℕ) : Type 0 where
-  pub same : length notes′ ≡ length notes
-  pub low : (i : ℕ) → i < at → getD notes′ i 0 ≡ getD notes i 0
-  pub high : (i : ℕ) → next ≤ i → getD notes′ i 0 ≡ getD notes i 0
+-- ---- A node that is there
+module _ (Own : ℕ → ℕ → Placed → Type 0) {left : ℕ} {nodes : List ℕ} {at k : ℕ} (n : Node left nodes at k) where
+  -- its own note, and those of the children
+  abbrev Below : Type 0
+  Below =
+      forChildren (rowOf (kindOf k) .children) (Own at k (statementAt (left - 1) nodes (at + 1))) (Noted Own nodes (left - 1) (at + 1))
+      (Noted Own nodes (left - 1) (statementAt (left - 1) nodes (at + 1) .next))
 
-untouched : (at next : ℕ) (notes : List ℕ) → Between at next notes notes
-untouched at next notes = record { same = refl; low = λ i h. refl; high = λ i h. refl }
-
-one-place : (at w : ℕ) (notes : List ℕ) → Between at (at + 1) notes (set notes at w)
-one-place at w notes = record {
-  same = length-set notes at w;
-  low = λ i h. getD-set-other notes at i w 0 (λ e. omega arith);
-  high = λ i h. getD-set-other notes at i w 0 (λ e. omega arith);
-}
-
--- one after the other, within the places of both
-both-between : (at next u v x y : ℕ) (k l m : List ℕ) → Between u v k l → Between x y l m → at ≤ u → at ≤ x → v ≤ next → y ≤ next → Between at next k m
-both-between at next u v x y k l m f g a b c e = record {
-  same = g .same ∙ f .same;
-  low = λ i h. g .low i (omega arith) ∙ f .low i (omega arith);
-  high = λ i h. g .high i (omega arith) ∙ f .high i (omega arith);
-}
-
-module _ (R : ℕ) (child : ℕ → Placed) (pass : ℕ → List ℕ → List ℕ) (forward : (at : ℕ) → at ≤ child at .next)
-    (frame : (at : ℕ) (notes : List ℕ) → Between at (child at .next) notes (pass at notes)) where
-  below-between : (c at : ℕ) (notes : List ℕ) → Between at (follow c child (at + 1)) notes (noteBelow c (λ at′. analysedOf R (child at′)) pass at notes)
-  unfolding noteBelow follow analysedOf
-  below-between zero at notes = untouched at (at + 1) notes
-  below-between (suc zero) at notes =
-      let f = forward (at + 1) in
-      both-between at (child (at + 1) .next) (at + 1) (child (at + 1) .next) at (at + 1) _ _ _ (frame (at + 1) notes) (one-place at _ (pass (at + 1) notes))
-      (omega arith) (omega arith) (omega arith) f
-  below-between (suc (suc n)) at notes =
-      let p = child (at + 1) .next in
-      let q = child p .next in
-      let e = follow n child q in
-      let f = forward (at + 1) in
-      let g = forward p in
-      let h = follow-forward child forward n q in
-      both-between at e at p p q _ _ _
-      (both-between at p (at + 1) p at (at + 1) _ _ _ (frame (at + 1) notes) (one-place at _ (pass (at + 1) notes)) (omega arith) (omega arith) (omega arith) f)
-      (frame p _) (omega arith) (omega arith) (omega arith) h
-
-module _ (R : ℕ) (nodes : List ℕ) where
-  pub pass-between : (left at : ℕ) (notes : List ℕ) → Between at (statementAt left nodes at .next) notes (notesAfter R left nodes at notes)
-  unfolding notesAfter statementAt
-  pass-between zero at notes = untouched at at notes
-  pass-between (suc left) at notes = go (pass-between left) (ltb at (length nodes)) refl
+  pub noted-node : Noted Own nodes left at → Below
+  unfolding Noted
+  noted-node h = go left (n .some) h
     where
-      go : ((at : ℕ) (notes : List ℕ) → Between at (statementAt left nodes at .next) notes (notesAfter R left nodes at notes))
-          → (b : Bool) → ltb at (length nodes) ≡ b → Between at (statementAt (suc left) nodes at .next) notes (notesAfter R (suc left) nodes at notes)
-      go ih true e = rw (e, place-next (kindOf (kindOfNode (getD nodes at 0))) (operandOf (getD nodes at 0)) (statementAt left nodes) (at + 1))
-          (below-between R (statementAt left nodes) (notesAfter R left nodes) (next-forward nodes left) ih (rowOf (kindOf (kindOfNode (getD nodes at 0))) .children) at notes)
-      go ih false e = rw e (untouched at at notes)
+      go : (l : ℕ) → l ≢ 0 → Noted Own nodes l at
+          → forChildren (rowOf (kindOf k) .children) (Own at k (statementAt (l - 1) nodes (at + 1))) (Noted Own nodes (l - 1) (at + 1))
+          (Noted Own nodes (l - 1) (statementAt (l - 1) nodes (at + 1) .next))
+      go zero z h = absurd (z refl)
+      go (suc m) z h = rw (sub-one (suc m), ← n .kind) h
 
--- ---- What it leaves at the nodes
--- the notes from a place on, as far as the statement there reaches
-abbrev Agree : ℕ → ℕ → List ℕ → List ℕ → Type 0
-Agree at next later notes = (i : ℕ) → at ≤ i → i < next → getD later i 0 ≡ getD notes i 0
-
-module _ (R : ℕ) (nodes later : List ℕ) (left : ℕ)
-    (ih : (at : ℕ) (notes : List ℕ) → length nodes ≤ length notes → Agree at (statementAt left nodes at .next) later (notesAfter R left nodes at notes) → Noted R left nodes later at) where
-  abbrev child : ℕ → Placed
-  child = statementAt left nodes
-
-  abbrev pass : ℕ → List ℕ → List ℕ
-  pass = notesAfter R left nodes
-
-  below-noted : (c at : ℕ) (notes : List ℕ) → at < length nodes → length nodes ≤ length notes
-      → Agree at (follow c child (at + 1)) later (noteBelow c (λ at′. analysedOf R (child at′)) pass at notes)
-      → NotedBelow c (λ at′. analysedOf R (child at′)) (Noted R left nodes later) (getD later at 0) (at + 1)
-  unfolding noteBelow NotedBelow follow analysedOf
-  below-noted zero at notes b l h = tt
-  below-noted (suc zero) at notes b l h =
-      let w = noteOf (analysedOf R (child (at + 1))) in
-      let f = next-forward nodes left (at + 1) in
-      let first = pass-between R nodes left (at + 1) notes in (
-        h at (omega arith) (omega arith) ∙ getD-set-same (pass (at + 1) notes) at w 0 (let e = first .same in omega arith),
-        ih (at + 1) notes l (λ i u v. h i (omega arith) v ∙ getD-set-other (pass (at + 1) notes) at i w 0 (λ e. omega arith)),
-      )
-  below-noted (suc (suc n)) at notes b l h =
-      let w = noteOf (analysedOf R (child (at + 1))) in
-      let p = child (at + 1) .next in
-      let q = child p .next in
-      let f = next-forward nodes left (at + 1) in
-      let g = next-forward nodes left p in
-      let k = follow-forward child (next-forward nodes left) n q in
-      let first = pass-between R nodes left (at + 1) notes in
-      let both = pass-between R nodes left p (set (pass (at + 1) notes) at w) in (
-        h at (omega arith) (omega arith) ∙ both .low at (omega arith) ∙ getD-set-same (pass (at + 1) notes) at w 0 (let e = first .same in omega arith),
-        ih (at + 1) notes l
-            (λ i u v. h i (omega arith) (omega arith) ∙ both .low i v ∙ getD-set-other (pass (at + 1) notes) at i w 0 (λ e. omega arith)),
-        ih p (set (pass (at + 1) notes) at w) (let e = first .same in let z = length-set (pass (at + 1) notes) at w in omega arith) (λ i u v. h i (omega arith) (omega arith)),
-      )
-
-module _ (R : ℕ) (nodes : List ℕ) where
-  -- whatever is written elsewhere afterwards
-  pub pass-noted : (left at : ℕ) (notes later : List ℕ) → length nodes ≤ length notes → Agree at (statementAt left nodes at .next) later (notesAfter R left nodes at notes)
-      → Noted R left nodes later at
-  unfolding notesAfter statementAt Noted
-  pass-noted zero at notes later l h = tt
-  pass-noted (suc left) at notes later l h = λ b. go (λ at notes. pass-noted left at notes later) b
+  pub noted-make : Below → Noted Own nodes left at
+  unfolding Noted
+  noted-make h = go left (n .some) h
     where
-      go : ((at : ℕ) (notes : List ℕ) → length nodes ≤ length notes → Agree at (statementAt left nodes at .next) later (notesAfter R left nodes at notes) → Noted R left nodes later at)
-          → at < length nodes
-          → NotedBelow (rowOf (kindOf (kindOfNode (getD nodes at 0))) .children) (λ at′. analysedOf R (statementAt left nodes at′)) (Noted R left nodes later) (getD later at 0) (at + 1)
-      go ih b =
-          let k = kindOf (kindOfNode (getD nodes at 0)) in
-          below-noted R nodes later left ih (rowOf k .children) at notes b l
-          (rw (lt-ltb at (length nodes) b, place-next k (operandOf (getD nodes at 0)) (statementAt left nodes) (at + 1)) at h)
+      go : (l : ℕ) → l ≢ 0
+          → forChildren (rowOf (kindOf k) .children) (Own at k (statementAt (l - 1) nodes (at + 1))) (Noted Own nodes (l - 1) (at + 1))
+          (Noted Own nodes (l - 1) (statementAt (l - 1) nodes (at + 1) .next)) → Noted Own nodes l at
+      go zero z h = absurd (z refl)
+      go (suc m) z h = rw (n .kind) (rw (sub-one (suc m)) at h)
 
-  pub noted-after : (left at : ℕ) (notes : List ℕ) → length nodes ≤ length notes → Noted R left nodes (notesAfter R left nodes at notes) at
-  noted-after left at notes l = pass-noted left at notes (notesAfter R left nodes at notes) l (λ i u v. refl)
+-- ---- A place without a node
+no-children : (nodes : List ℕ) (at : ℕ) → length nodes ≤ at → rowOf (kindOf (kindOfNode (getD nodes at 0))) .children ≡ 0
+unfolding rowOf kindOf kinds
+no-children nodes at h = ap (λ (x : ℕ). rowOf (kindOf (kindOfNode x)) .children) (List·getD-eq-default nodes 0 h)
 
--- at a node that is there: its own note, and those of the children
-pub noted-node : {left : ℕ} {nodes : List ℕ} {at k : ℕ} → Node left nodes at k → (R : ℕ) (notes : List ℕ) → Noted R left nodes notes at
-    → NotedBelow (rowOf (kindOf k) .children) (λ at′. analysedOf R (statementAt (left - 1) nodes at′)) (Noted R (left - 1) nodes notes) (getD notes at 0) (at + 1)
+pub noted-none : (Own : ℕ → ℕ → Placed → Type 0) (nodes : List ℕ) (left at : ℕ) → (left ≡ 0) ⊎ (length nodes ≤ at) → Noted Own nodes left at
 unfolding Noted
-noted-node {left} {nodes} {at} {k} n R notes h = go left (n .some) h
-  where
-    go : (l : ℕ) → l ≢ 0 → Noted R l nodes notes at
-        → NotedBelow (rowOf (kindOf k) .children) (λ at′. analysedOf R (statementAt (l - 1) nodes at′)) (Noted R (l - 1) nodes notes) (getD notes at 0) (at + 1)
-    go zero f h = absurd (f refl)
-    go (suc m) f h = rw (sub-one (suc m)) (rw (n .kind) at (h (n .inside)))
+noted-none Own nodes zero at h = tt
+noted-none Own nodes (suc left) at (inl e) = absurd (omega arith)
+noted-none Own nodes (suc left) at (inr h) = rw (no-children nodes at h) tt
+
+-- ---- Notes that stay
+next-is : (nodes : List ℕ) (left at : ℕ) → at < length nodes
+    → statementAt (suc left) nodes at .next ≡ follow (rowOf (kindOf (kindOfNode (getD nodes at 0))) .children) (statementAt left nodes) (at + 1)
+unfolding statementAt
+next-is nodes left at h =
+    rw (lt-ltb at (length nodes) h) (place-next (kindOf (kindOfNode (getD nodes at 0))) (operandOf (getD nodes at 0)) (statementAt left nodes) (at + 1))
+
+module _ (Own Own′ : ℕ → ℕ → Placed → Type 0) (nodes : List ℕ) where
+  -- at the places of a statement
+  abbrev Stays : ℕ → ℕ → Type 0
+  Stays at next = (i k : ℕ) (p : Placed) → at ≤ i → i < next → Own i k p → Own′ i k p
+
+  pub noted-stay : (left at : ℕ) → Noted Own nodes left at → Stays at (statementAt left nodes at .next) → Noted Own′ nodes left at
+  unfolding Noted follow
+  noted-stay zero at h s = tt
+  noted-stay (suc left) at h s = go (decLe (length nodes) at) (noted-stay left)
+    where
+      k : ℕ
+      k = kindOfNode (getD nodes at 0)
+
+      child : ℕ → Placed
+      child = statementAt left nodes
+
+      go : Dec (length nodes ≤ at) → ((at : ℕ) → Noted Own nodes left at → Stays at (child at .next) → Noted Own′ nodes left at) → Noted Own′ nodes (suc left) at
+      go (yes l) ih = noted-none Own′ nodes (suc left) at (inr l)
+      go (no l) ih = below (rowOf (kindOf k) .children) (next-is nodes left at (omega arith)) h
+        where
+          first : at + 1 ≤ child (at + 1) .next
+          first = next-forward nodes left (at + 1)
+
+          second : child (at + 1) .next ≤ child (child (at + 1) .next) .next
+          second = next-forward nodes left (child (at + 1) .next)
+
+          below : (c : ℕ) → statementAt (suc left) nodes at .next ≡ follow c child (at + 1)
+              → forChildren c (Own at k (child (at + 1))) (Noted Own nodes left (at + 1)) (Noted Own nodes left (child (at + 1) .next))
+              → forChildren c (Own′ at k (child (at + 1))) (Noted Own′ nodes left (at + 1)) (Noted Own′ nodes left (child (at + 1) .next))
+          below zero e h = tt
+          below (suc zero) e h = (s at k _ (omega arith) (omega (arith, e, first)) (h .0), ih (at + 1) (h .1) (λ i k p x y. s i k p (omega arith) (omega (arith, e))))
+          below (suc (suc c)) e h =
+              let third = follow-forward child (next-forward nodes left) c (child (child (at + 1) .next) .next) in (
+                s at k _ (omega arith) (omega (arith, e, first, second, third)) (h .0),
+                ih (at + 1) (h .1) (λ i k p x y. s i k p (omega arith) (omega (arith, e, second, third))),
+                ih (child (at + 1) .next) (h .2) (λ i k p x y. s i k p (omega (arith, first)) (omega (arith, e, third))),
+              )
+
+-- ---- A pass leaves them
+from-same : (at : ℕ) (xs : List ℕ) → From at xs xs
+from-same at xs = record { size = refl; low = λ i h. refl }
+
+from-set : (at : ℕ) (xs : List ℕ) (w : ℕ) (ys : List ℕ) → ys ≡ set xs at w → From at xs ys
+from-set at xs w ys e = subst (From at xs) (sym e) (record { size = length-set xs at w; low = λ i h. getD-set-other xs at i w 0 (λ z. omega arith) })
+
+from-both : (at u v : ℕ) (xs ys zs : List ℕ) → From u xs ys → From v ys zs → at ≤ u → at ≤ v → From at xs zs
+from-both at u v xs ys zs f g a b = record { size = g .size ∙ f .size; low = λ i h. g .low i (omega arith) ∙ f .low i (omega arith) }
+
+opens-stay : (notes endings notes′ endings′ : List ℕ) (i k : ℕ) (p : Placed) → getD notes′ i 0 ≡ getD notes i 0 → getD endings′ i 0 ≡ getD endings i 0
+    → Opens notes endings i k p → Opens notes′ endings′ i k p
+opens-stay notes endings notes′ endings′ i k p a b h = (a ∙ h .0, λ l w. ap (λ (m : ℕ). has m l) b ∙ h .1 l w)
+
+-- where there is no child
+pub open-none : (left : ℕ) (nodes : List ℕ) (at : ℕ) (notes endings : List ℕ) → (left ≡ 0) ⊎ (length nodes ≤ at) → Opened left nodes at notes endings notes endings
+open-none left nodes at notes endings h =
+    record { noted = noted-none (Opens notes endings) nodes left at h; notes-from = from-same at notes; endings-from = from-same at endings }
+
+module _ {left : ℕ} {nodes : List ℕ} {at k : ℕ} (n : Node left nodes at k) {notes endings : List ℕ} where
+  pub open-leaf : rowOf (kindOf k) .children ≡ 0 → Opened left nodes at notes endings notes endings
+  open-leaf h = record { noted = noted-make (Opens notes endings) n (rw h tt); notes-from = from-same at notes; endings-from = from-same at endings }
+
+  module _ {kept one : List ℕ} (room : Summable left nodes at kept notes endings) {P r : Summary} {notes₁ endings₁ notes₂ endings₂ : List ℕ}
+      (h : Summarised (statementAt (left - 1) nodes (at + 1)) P kept one) (o : Opened (left - 1) nodes (at + 1) notes endings notes₁ endings₁)
+      (w : Wrote P at r notes₁ endings₁ notes₂ endings₂) where
+    abbrev first : Placed
+    first = statementAt (left - 1) nodes (at + 1)
+
+    abbrev note : ℕ
+    note = P .next * 4 + flagOf (codesOf (P .start) .ends)
+
+    own : Opens notes₂ endings₂ at k first
+    unfolding openNote
+    own = (
+      ap (λ (l : List ℕ). getD l at 0) (w .note) ∙ getD-set-same notes₁ at note 0 (omega (arith, n .inside, room .all, o .notes-from .size, room .notes-are))
+          ∙ ap₂ (λ (m : ℕ) (K : Codes). m * 4 + flagOf (K .ends)) (h .next) (h .start),
+      λ l b. ap (λ (m : ℕ). has m l) (ap (λ (l : List ℕ). getD l at 0) (w .ending) ∙ getD-set-same endings₁ at (P .ending) 0 (omega (arith, n .inside, room .all, o .endings-from .size, room .endings-are)))
+          ∙ h .ending l b,
+    )
+
+    below : Noted (Opens notes₂ endings₂) nodes (left - 1) (at + 1)
+    below =
+        noted-stay (Opens notes₁ endings₁) (Opens notes₂ endings₂) nodes (left - 1) (at + 1) (o .noted)
+        (λ i k p a b. opens-stay notes₁ endings₁ notes₂ endings₂ i k p
+        (ap (λ (l : List ℕ). getD l i 0) (w .note) ∙ getD-set-other notes₁ at i note 0 (λ z. omega arith))
+        (ap (λ (l : List ℕ). getD l i 0) (w .ending) ∙ getD-set-other endings₁ at i (P .ending) 0 (λ z. omega arith)))
+
+    notes-two : From at notes notes₂
+    notes-two = from-both at (at + 1) at notes notes₁ notes₂ (o .notes-from) (from-set at notes₁ note notes₂ (w .note)) (omega arith) (omega arith)
+
+    endings-two : From at endings endings₂
+    endings-two = from-both at (at + 1) at endings endings₁ endings₂ (o .endings-from) (from-set at endings₁ (P .ending) endings₂ (w .ending)) (omega arith) (omega arith)
+
+    pub open-one : rowOf (kindOf k) .children ≡ 1 → Opened left nodes at notes endings notes₂ endings₂
+    open-one c = record { noted = noted-make (Opens notes₂ endings₂) n (rw c (own, below)); notes-from = notes-two; endings-from = endings-two }
+
+    -- what was found goes on as it was
+    pub found-same : Summarised first r kept one
+    found-same = subst (λ (x : Summary). Summarised first x kept one) (sym (w .same)) h
+
+    pub room-notes : (length notes₂ ≡ 1024) × (length endings₂ ≡ 1024)
+    room-notes = (notes-two .size ∙ room .notes-are, endings-two .size ∙ room .endings-are)
+
+    pub open-two : {notes₃ endings₃ : List ℕ} → rowOf (kindOf k) .children ≡ 2 → Opened (left - 1) nodes (r .next) notes₂ endings₂ notes₃ endings₃
+        → Opened left nodes at notes endings notes₃ endings₃
+    open-two {notes₃} {endings₃} c o₂ =
+        record {
+          noted = noted-make (Opens notes₃ endings₃) n (rw c (
+            opens-stay notes₂ endings₂ notes₃ endings₃ at k first (later .notes-from .low at (omega (arith, forward))) (later .endings-from .low at (omega (arith, forward))) own,
+            noted-stay (Opens notes₂ endings₂) (Opens notes₃ endings₃) nodes (left - 1) (at + 1) below
+                (λ i k p a b. opens-stay notes₂ endings₂ notes₃ endings₃ i k p (later .notes-from .low i b) (later .endings-from .low i b)),
+            later .noted,
+          ));
+          notes-from = from-both at at (first .next) notes notes₂ notes₃ notes-two (later .notes-from) (omega arith) (omega (arith, forward));
+          endings-from = from-both at at (first .next) endings endings₂ endings₃ endings-two (later .endings-from) (omega arith) (omega (arith, forward));
+        }
+      where
+        forward : at + 1 ≤ first .next
+        forward = next-forward nodes (left - 1) (at + 1)
+
+        later : Opened (left - 1) nodes (first .next) notes₂ endings₂ notes₃ endings₃
+        later = subst (λ (m : ℕ). Opened (left - 1) nodes m notes₂ endings₂ notes₃ endings₃) (found-same .next) o₂
+
+  -- there is room for the note
+  pub note-fits : {kept one : List ℕ} → Summable left nodes at kept notes endings → {P : Summary} → Summarised (statementAt (left - 1) nodes (at + 1)) P kept one
+      → (at < 1024) × (P .next ≤ 1024)
+  note-fits room h =
+      let w = next-within nodes (left - 1) (at + 1) (omega (arith, n .inside)) in
+      (omega (arith, n .inside, room .all), omega (arith, w, h .next, room .all))
 
 -- ---- What a note says
-pub second-note : (p : Analysed) → secondOf (noteOf p) ≡ p .next
-unfolding secondOf noteOf
-second-note p = let f = flag-small (p .resumed .ends) in let g = flag-small (p .start .ends) in omega arith
-
 has-flag : (b : Bool) → eqb (flagOf b) 1 ≡ b
 unfolding flagOf
 has-flag true = refl
 has-flag false = refl
 
-module _ (p : Analysed) where
-  resumed-note : has (noteOf p) 1 ≡ p .resumed .ends
-  unfolding has noteOf
-  resumed-note =
-      let f = flag-small (p .resumed .ends) in
-      let g = flag-small (p .start .ends) in
-      let e : (p .next * 4 + flagOf (p .resumed .ends) * 2 + flagOf (p .start .ends)) / 2 % 2 ≡ flagOf (p .resumed .ends) = omega arith in
-      ap (λ (n : ℕ). eqb n 1) e ∙ has-flag (p .resumed .ends)
+-- a place, and two flags behind it
+module _ (e : ℕ) (x y : Bool) where
+  pub flags-place : secondOf (e * 4 + flagOf x * 2 + flagOf y) ≡ e
+  unfolding secondOf
+  flags-place = omega (arith, flag-small x, flag-small y)
 
-  start-note : has (noteOf p) 0 ≡ p .start .ends
-  unfolding has noteOf
-  start-note =
-      let g = flag-small (p .start .ends) in
-      let e : (p .next * 4 + flagOf (p .resumed .ends) * 2 + flagOf (p .start .ends)) % 2 ≡ flagOf (p .start .ends) = omega arith in
-      ap (λ (n : ℕ). eqb n 1) e ∙ has-flag (p .start .ends)
+  pub flags-high : has (e * 4 + flagOf x * 2 + flagOf y) 1 ≡ x
+  unfolding has
+  flags-high =
+      let h : (e * 4 + flagOf x * 2 + flagOf y) / 2 % 2 ≡ flagOf x = omega (arith, flag-small x, flag-small y) in
+      ap (λ (n : ℕ). eqb n 1) h ∙ has-flag x
+
+  pub flags-low : has (e * 4 + flagOf x * 2 + flagOf y) 0 ≡ y
+  unfolding has
+  flags-low =
+      let h : (e * 4 + flagOf x * 2 + flagOf y) % 2 ≡ flagOf y = omega (arith, flag-small y) in
+      ap (λ (n : ℕ). eqb n 1) h ∙ has-flag y
+
+pub second-note : (R : ℕ) (p : Placed) → secondOf (noteOf R p) ≡ p .next
+unfolding noteOf
+second-note R p = flags-place (p .next) (d R (p .statement) .ends) (s (p .statement) .ends)
 
 -- "0 is in C"
-pub ends-note : (R : ℕ) (b : Bool) (p : Placed) → endsOf (noteOf (analysedOf R p)) b ≡ canEnd R b (p .statement)
-unfolding endsOf canEnd analysedOf join
-ends-note R true p = ap₂ _||_ (resumed-note (analysedOf R p)) (start-note (analysedOf R p))
-ends-note R false p = resumed-note (analysedOf R p)
+pub ends-note : (R : ℕ) (b : Bool) (p : Placed) → endsOf (noteOf R p) b ≡ canEnd R b (p .statement)
+unfolding endsOf canEnd join noteOf
+ends-note R true p =
+    ap₂ _||_ (flags-high (p .next) (d R (p .statement) .ends) (s (p .statement) .ends)) (flags-low (p .next) (d R (p .statement) .ends) (s (p .statement) .ends))
+ends-note R false p = flags-high (p .next) (d R (p .statement) .ends) (s (p .statement) .ends)

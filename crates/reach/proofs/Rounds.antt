@@ -1,119 +1,94 @@
--- The rounds over nodes: the labels found among the nodes are those of the statement's pauses, each round that goes on adds
--- one of them, and the first that adds none is where reach rests.
+-- The rounds over a summary: d over R has the codes of d over the labels of R, one at a time; so what is kept for the labels
+-- that a round adds is all that the next round needs. Each round that goes on adds a label, and the first that adds none is
+-- where reach rests.
 use mathlib.Core.Path.{_≡_, refl, sym, ap, ap₂, _∙_, subst, subst₂}
-use mathlib.Core.Logic.{_≢_}
-use mathlib.Core.Bool.{Bool, true, cond}
+use mathlib.Core.Logic.{_≢_, _⊎_, inl, inr, ⊎-elim}
+use mathlib.Core.Bool.{Bool, true, false, cond, not, _&&_, _||_}
 use mathlib.Core.List.{List}
-use Prim.Native.Nat.{ℕ, zero, suc, _+_, _-_, _%_, _^_, _≤_, _<_}
-use native.Mathlib.Nat.{mod-lt}
+use Prim.Native.Nat.{ℕ, suc, _+_, _-_, _^_, _≤_, _<_}
 use native.Mathlib.Decide.{ℕ-discrete, decLe}
 use native.Mathlib.Numerals.{add-one}
 use native.Mathlib.Omega.{arith}
-use lib.Bits.{bitAnd, bitOr}
-use lib.Dec.{eqb, ltb}
-use lib.ListN.{length, getD, List·getD-map}
-use Rattle.sets.specs.Set.{has, only, _union_, _intersect_, Within}
-use Rattle.sets.proofs.Booleans.{by-cond, clash, eqb-differ}
-use Rattle.sets.proofs.Members.{union-empty, empty-union, union-assoc, only-fits, past-width}
+use lib.Bits.{bitAnd, bitXor}
+use lib.Dec.{eqb}
+use Rattle.sets.specs.Set.{has, only, _union_, _intersect_, _minus_, Within}
+use Rattle.sets.proofs.Booleans.{and-cases, and-both, same-bool, differ-eqb, clash}
+use Rattle.sets.proofs.Members.{ext, within-ext, has-union, has-intersect, has-minus, has-only, has-only-equal, has-empty, union-empty, union-assoc, past-width, not-empty, some-member}
 use Rattle.sets.proofs.Counts.{count, count-width, count-within}
-use Rattle.esterel.specs.Statement.{Statement, pauses}
-use Rattle.esterel.specs.Codes.{join}
+use Rattle.esterel.specs.Statement.{Statement, nothing, pause, gotopause, emit, exit, signal, present, sequence, parallel, loop, try, pauses}
+use Rattle.esterel.specs.Codes.{Codes, Qualified, ended, at, plain, contains, none, justEnded, join, minusZero, throughTry, s, d}
 use Rattle.esterel.specs.Codes as codes
 use Rattle.esterel.specs.Reachability.{nextR, afterRounds, Reached, reach}
-use Rattle.esterel.proofs.Reachability.{round-adds, reach-unique, afterRounds-pauses}
-use Rattle.table.specs.Kinds.{Kind, kinds, kindOf}
-use Rattle.table.specs.Reading.{kindOfNode, operandOf, deepest}
-use Rattle.table.specs.Places.{Placed, placeKind, statementAt}
-use Rattle.reach.specs.declared.pass.Both.{Both}
-use Rattle.reach.specs.CodeSets.{codesOf}
-use Rattle.reach.specs.Analysis.{Analysed, analysedOf, viewOf}
-use Rattle.reach.specs.Notes.{Noted}
-use Rattle.reach.specs.Passes.{Passable, Passed}
-use Rattle.reach.specs.Rounds.{pauseLabel, pausesBefore, statementOf, Ready, Rests}
-use Rattle.reach.proofs.Nodes.{all-same}
-use Rattle.reach.proofs.Notes.{pass-between, noted-after}
+use Rattle.esterel.proofs.Codes.{contains-none, contains-left, contains-right, join-cases, contains-minusZero, contains-throughTry, contains-throughTry⁺}
+use Rattle.esterel.proofs.Reachability.{d-union, d-mono, round-adds, reach-unique, afterRounds-pauses, afterRounds-grows}
+use Rattle.table.specs.Reading.{deepest}
+use Rattle.table.specs.Places.{Placed, statementAt}
+use Rattle.reach.specs.declared.summary.Summary.{Summary}
+use Rattle.reach.specs.CodeSets.{followedBy}
+use Rattle.reach.specs.Summaries.{resumedFrom, Gathered, EndsAlone, Summarised}
+use Rattle.reach.specs.Rounds.{statementOf, Reaches}
+use Rattle.reach.proofs.Summing.{d-followed, d-looped, d-outside}
 
--- ---- The label of a pause
-pub pause-label : (x k o r : ℕ) → k ≡ kindOfNode x → k ≡ 1 → o ≡ operandOf x → r ≡ only o % 2 ^ 64 → r ≡ pauseLabel x
-unfolding pauseLabel
-pause-label x k o r h e f g =
-    let b : o < 64 = subst (λ (n : ℕ). n < 64) (sym f) (mod-lt x (omega arith)) in
-    g ∙ only-fits 64 o b ∙ ap only f ∙ sym (ap (λ (n : ℕ). cond (eqb n 1) (only (operandOf x)) 0) (sym h ∙ e))
+-- ---- A code of d over R comes from one label of R
+abbrev FromOne : ℕ → (ℕ → Codes) → Qualified → Type 0
+FromOne R D k = (l : ℕ) × (has R l ≡ true) × (contains (D l) k ≡ true)
 
-pub no-label : (x k : ℕ) → k ≡ kindOfNode x → k ≢ 1 → 0 ≡ pauseLabel x
-unfolding pauseLabel
-no-label x k h e = sym (ap (λ (b : Bool). cond b (only (operandOf x)) 0) (eqb-differ (kindOfNode x) 1 (λ q. e (h ∙ q))))
+-- K followed by S, where each code of K comes from one label
+followed-single : (R : ℕ) (K : Codes) (D : ℕ → Codes) (S : Codes) → ((k : Qualified) → contains K k ≡ true → FromOne R D k)
+    → (k : Qualified) → contains (followedBy K S) k ≡ true → FromOne R (λ l. followedBy (D l) S) k
+unfolding followedBy contains
+followed-single R K D S from k h = ⊎-elim own on (join-cases (minusZero K) (cond (K .ends) S none) k h)
+  where
+    own : contains (minusZero K) k ≡ true → FromOne R (λ l. followedBy (D l) S) k
+    own u =
+        let (z, c) = and-cases (not (eqb (plain k) 0)) (contains K k) (sym (contains-minusZero K k) ∙ u) in
+        let (l, m, v) = from k c in
+        (l, m, contains-left (minusZero (D l)) (cond (D l .ends) S none) k (contains-minusZero (D l) k ∙ and-both _ _ z v))
 
-pub one-more : (nodes : List ℕ) (i r : ℕ) → r ≡ pauseLabel (getD nodes i 0) → pausesBefore nodes i union r ≡ pausesBefore nodes (i + 1)
-unfolding pausesBefore
-one-more nodes i r e = rw (add-one i) (ap (λ (l : ℕ). pausesBefore nodes i union l) e)
+    first : K .ends ≡ true → (l : ℕ) × (has R l ≡ true) × (D l .ends ≡ true)
+    first e = from ended e
 
--- ---- The labels among the nodes of a statement
-labelOf : Kind → ℕ → ℕ
-labelOf Kind.nothing o = 0
-labelOf Kind.pause o = only o
-labelOf Kind.gotopause o = 0
-labelOf Kind.emit o = 0
-labelOf Kind.exit o = 0
-labelOf Kind.signal o = 0
-labelOf Kind.present o = 0
-labelOf Kind.sequence o = 0
-labelOf Kind.parallel o = 0
-labelOf Kind.loop o = 0
-labelOf Kind.try o = 0
-labelOf Kind.unused o = 0
+    on : contains (cond (K .ends) S none) k ≡ true → FromOne R (λ l. followedBy (D l) S) k
+    on u = go (K .ends) refl u
+      where
+        go : (z : Bool) → K .ends ≡ z → contains (cond z S none) k ≡ true → FromOne R (λ l. followedBy (D l) S) k
+        go true e v =
+            let (l, m, w) = first e in
+            (l, m, contains-right (minusZero (D l)) (cond (D l .ends) S none) k (ap (λ (z : Bool). contains (cond z S none) k) w ∙ v))
+        go false e v = clash v (contains-none k)
 
-label-kind : (k o : ℕ) → cond (eqb k 1) (only o) 0 ≡ labelOf (kindOf k) o
-unfolding labelOf kindOf kinds
-label-kind zero o = refl
-label-kind (suc zero) o = refl
-label-kind (suc (suc k)) o =
-    ap (λ (b : Bool). cond b (only o) 0) (eqb-differ (suc (suc k)) 1 (λ e. omega arith))
-    ∙ sym (all-same 0 14 k) ∙ List·getD-map (λ (k : Kind). labelOf k o) kinds (suc (suc k)) Kind.unused
+from-either : (R : ℕ) (A B : ℕ → Codes) (k : Qualified) → FromOne R A k ⊎ FromOne R B k → FromOne R (λ l. join (A l) (B l)) k
+from-either R A B k (inl (l, m, v)) = (l, m, contains-left (A l) (B l) k v)
+from-either R A B k (inr (l, m, v)) = (l, m, contains-right (A l) (B l) k v)
 
-module _ (nodes : List ℕ) where
-  -- one child after a node without a label, or two
-  module _ (child : ℕ → Placed) (h : (at : ℕ) → pausesBefore nodes (child at .next) ≡ pausesBefore nodes at union pauses (child at .statement))
-      (at : ℕ) (e : pausesBefore nodes (at + 1) ≡ pausesBefore nodes at union 0) where
-    one : pausesBefore nodes (child (at + 1) .next) ≡ pausesBefore nodes at union pauses (child (at + 1) .statement)
-    one = h (at + 1) ∙ ap (λ (l : ℕ). l union pauses (child (at + 1) .statement)) (e ∙ union-empty (pausesBefore nodes at))
+pub d-single : (R : ℕ) (p : Statement) (k : Qualified) → contains (d R p) k ≡ true → FromOne R (λ l. d (only l) p) k
+unfolding d
+d-single R nothing k h = clash h (contains-none k)
+d-single R (pause m) k h = go (has R m) refl h
+  where
+    go : (z : Bool) → has R m ≡ z → contains (cond z justEnded none) k ≡ true → FromOne R (λ l. d (only l) (pause m)) k
+    go true e u = (m, e, ap (λ (z : Bool). contains (cond z justEnded none) k) (has-only m) ∙ u)
+    go false e u = clash u (contains-none k)
+d-single R (gotopause m) k h = clash h (contains-none k)
+d-single R (emit S) k h = clash h (contains-none k)
+d-single R (exit e) k h = clash h (contains-none k)
+d-single R (signal S p) k h = d-single R p k h
+d-single R (present S p q) k h = from-either R _ _ k (⊎-elim (λ u. inl (d-single R p k u)) (λ v. inr (d-single R q k v)) (join-cases (d R p) (d R q) k h))
+d-single R (sequence p q) k h =
+    let (l, m, v) = from-either R (λ l. followedBy (d (only l) p) (s q)) (λ l. d (only l) q) k
+    (⊎-elim (λ u. inl (followed-single R (d R p) (λ l. d (only l) p) (s q) (d-single R p) k u)) (λ w. inr (d-single R q k w))
+    (join-cases (followedBy (d R p) (s q)) (d R q) k (ap (λ (K : Codes). contains K k) (sym (d-followed R p q)) ∙ h))) in
+    (l, m, ap (λ (K : Codes). contains K k) (d-followed (only l) p q) ∙ v)
+d-single R (parallel p q) k h = from-either R _ _ k (⊎-elim (λ u. inl (d-single R p k u)) (λ v. inr (d-single R q k v)) (join-cases (d R p) (d R q) k h))
+d-single R (loop p) k h =
+    let (l, m, v) = followed-single R (d R p) (λ l. d (only l) p) (minusZero (s p)) (d-single R p) k (ap (λ (K : Codes). contains K k) (sym (d-looped R p)) ∙ h) in
+    (l, m, ap (λ (K : Codes). contains K k) (d-looped (only l) p) ∙ v)
+d-single R (try p) k h =
+    let (q, u, e) = contains-throughTry (d R p) k .0 h in
+    let (l, m, v) = d-single R p q u in
+    (l, m, subst (λ (x : Qualified). contains (throughTry (d (only l) p)) x ≡ true) e (contains-throughTry⁺ (d (only l) p) q v))
 
-    two : pausesBefore nodes (child (child (at + 1) .next) .next)
-        ≡ pausesBefore nodes at union (pauses (child (at + 1) .statement) union pauses (child (child (at + 1) .next) .statement))
-    two =
-        h (child (at + 1) .next)
-        ∙ ap (λ (l : ℕ). l union pauses (child (child (at + 1) .next) .statement)) one
-        ∙ union-assoc (pausesBefore nodes at) (pauses (child (at + 1) .statement)) (pauses (child (child (at + 1) .next) .statement))
-
-  -- after the node of kind k at `at`, the places of a child, and of two
-  place-pauses : (k : Kind) (o : ℕ) (child : ℕ → Placed) → ((at : ℕ) → pausesBefore nodes (child at .next) ≡ pausesBefore nodes at union pauses (child at .statement))
-      → (at : ℕ) → pausesBefore nodes (at + 1) ≡ pausesBefore nodes at union labelOf k o
-      → pausesBefore nodes (placeKind k o child (at + 1) .next) ≡ pausesBefore nodes at union pauses (placeKind k o child (at + 1) .statement)
-  unfolding placeKind pauses labelOf
-  place-pauses Kind.nothing o child h at e = e
-  place-pauses Kind.pause o child h at e = e
-  place-pauses Kind.gotopause o child h at e = e
-  place-pauses Kind.emit o child h at e = e
-  place-pauses Kind.exit o child h at e = e
-  place-pauses Kind.signal o child h at e = one child h at e
-  place-pauses Kind.present o child h at e = two child h at e
-  place-pauses Kind.sequence o child h at e = two child h at e
-  place-pauses Kind.parallel o child h at e = two child h at e
-  place-pauses Kind.loop o child h at e = one child h at e
-  place-pauses Kind.try o child h at e = one child h at e
-  place-pauses Kind.unused o child h at e = e
-
-  pub pauses-at : (left at : ℕ) → pausesBefore nodes (statementAt left nodes at .next) ≡ pausesBefore nodes at union pauses (statementAt left nodes at .statement)
-  unfolding statementAt pauses pauseLabel
-  pauses-at zero at = sym (union-empty (pausesBefore nodes at))
-  pauses-at (suc left) at =
-      let x = getD nodes at 0 in
-      by-cond (λ (p : Placed). pausesBefore nodes (p .next) ≡ pausesBefore nodes at union pauses (p .statement)) (ltb at (length nodes)) _ _
-      (λ h. place-pauses (kindOf (kindOfNode x)) (operandOf x) (statementAt left nodes) (pauses-at left) at
-      (sym (one-more nodes at (pauseLabel x) refl) ∙ ap (λ (l : ℕ). pausesBefore nodes at union l) (label-kind (kindOfNode x) (operandOf x))))
-      (λ h. sym (union-empty (pausesBefore nodes at)))
-
--- ---- The rounds
+-- ---- What is kept for the labels of a set
 below-width : (w m x : ℕ) → m < 2 ^ w → has m x ≡ true → x < w
 below-width w m x b h = go (decLe w x)
   where
@@ -121,84 +96,173 @@ below-width w m x b h = go (decLe w x)
     go (yes l) = clash h (past-width w m x b l)
     go (no f) = omega arith
 
--- after so many rounds, each of which has added a label: R, and there is still a note for each node
-pub record Going (nodes notes : List ℕ) (set rounds : ℕ) : Type 0 where
-  pub reached : set ≡ afterRounds (statementOf nodes) rounds
-  pub added : (j : ℕ) → j < rounds → afterRounds (statementOf nodes) (suc j) ≢ afterRounds (statementOf nodes) j
+module _ (p : Placed) (found : Summary) (first kept : List ℕ) (h : Summarised p found first kept) (w : found .pauses < 2 ^ 64) where
+  abbrev P : Statement
+  P = p .statement
+
+  label-small : (l : ℕ) → has (pauses P) l ≡ true → l < 64
+  label-small l k = below-width 64 (found .pauses) l w (ap (λ (m : ℕ). has m l) (h .labels) ∙ k)
+
+  kept-for : (l : ℕ) → has (pauses P) l ≡ true → resumedFrom kept l ≡ d (only l) P
+  kept-for l k = h .resumed l (label-small l k) ∙ ap (λ (z : Bool). cond z (d (only l) P) (resumedFrom first l)) k
+
+  -- the labels kept for a set are those of d over it
+  gathered : (new : ℕ) → Within new (pauses P) → (labels : ℕ) → Gathered new kept labels → labels ≡ codes.labels (d new P)
+  unfolding codes.labels contains
+  gathered new n labels g = within-ext labels (d new P .pausing) sound complete
+    where
+      sound : Within labels (d new P .pausing)
+      sound x k =
+          let (l, b, m, v) = g .sound x k in
+          d-mono (only l) new P (λ y u. subst (λ (z : ℕ). has new z ≡ true) (has-only-equal l y u) m) (at x) (ap (λ (K : Codes). has (K .pausing) x) (sym (kept-for l (n l m))) ∙ v)
+
+      complete : Within (d new P .pausing) labels
+      complete x k =
+          let (l, m, v) = d-single new P (at x) k in
+          g .complete l x (label-small l (n l m)) m (ap (λ (K : Codes). has (K .pausing) x) (kept-for l (n l m)) ∙ v)
+
+-- ---- Where a statement can end
+-- over R, exactly where it can end from a label of R alone
+pub ends-alone : (R E : ℕ) (p : Statement) → R < 2 ^ 64 → EndsAlone E p → not (eqb (bitAnd E R) 0) ≡ d R p .ends
+unfolding contains _intersect_ none
+ends-alone R E p w h = same-bool (not (eqb (bitAnd E R) 0)) (d R p .ends) met alone
+  where
+    not-flip : (z : Bool) → not z ≡ true → z ≡ false
+    not-flip true u = sym u
+    not-flip false u = refl
+
+    met : not (eqb (bitAnd E R) 0) ≡ true → d R p .ends ≡ true
+    met u =
+        let (l, m) = some-member (E intersect R) (differ-eqb (E intersect R) 0 (not-flip (eqb (bitAnd E R) 0) u)) in
+        let (x, y) = and-cases (has E l) (has R l) (sym (has-intersect E R l) ∙ m) in
+        let (_, e) = and-cases (has (pauses p) l) (d (only l) p .ends) (sym (h l (below-width 64 R l w y)) ∙ x) in
+        d-mono (only l) R p (λ z k. subst (λ (i : ℕ). has R i ≡ true) (has-only-equal l z k) y) ended e
+
+    paused : (l : ℕ) → d (only l) p .ends ≡ true → has (pauses p) l ≡ true
+    paused l e = go (has (pauses p) l) refl
+      where
+        go : (z : Bool) → has (pauses p) l ≡ z → z ≡ true
+        go true k = refl
+        go false k = clash e (ap (λ (K : Codes). K .ends) (d-outside l p k))
+
+    alone : d R p .ends ≡ true → not (eqb (bitAnd E R) 0) ≡ true
+    alone u =
+        let (l, m, e) = d-single R p ended u in
+        let x : has E l ≡ true = h l (below-width 64 R l w m) ∙ and-both (has (pauses p) l) (d (only l) p .ends) (paused l e) e in
+        ap not (not-empty (E intersect R) l (has-intersect E R l ∙ and-both (has E l) (has R l) x m))
+
+-- ---- The labels that a round adds
+added-is : (next set : ℕ) → Within set next → bitXor next set ≡ next minus set
+unfolding _minus_ _intersect_
+added-is next set f = ap (bitXor next) (sym (ext (next intersect set) set (λ x. has-intersect next set x ∙ go (has next x) (has set x) (f x))))
+  where
+    go : (u v : Bool) → (v ≡ true → u ≡ true) → (u && v) ≡ v
+    go true v f = refl
+    go false true f = f refl
+    go false false f = refl
+
+with-added : (next set : ℕ) → Within set next → set union (next minus set) ≡ next
+with-added next set f = ext (set union (next minus set)) next (λ x. has-union set (next minus set) x ∙ ap (λ (z : Bool). has set x || z) (has-minus next set x) ∙ go (has next x) (has set x) (f x))
+  where
+    go : (u v : Bool) → (v ≡ true → u ≡ true) → (v || (u && not v)) ≡ u
+    go true true f = refl
+    go true false f = refl
+    go false true f = sym (f refl)
+    go false false f = refl
+
+none-resumed : (p : Statement) → codes.labels (d 0 p) ≡ 0
+unfolding codes.labels contains
+none-resumed p = within-ext (d 0 p .pausing) 0 (λ x k. let (l, m, v) = d-single 0 p (at x) k in clash m (has-empty l)) (λ x k. clash k (has-empty x))
+
+labels-join : (K D : Codes) → codes.labels (join K D) ≡ codes.labels K union codes.labels D
+unfolding codes.labels join
+labels-join K D = refl
+
+-- ---- The rounds
+-- after so many rounds, each of which has added a label: R, and the labels of s and of d over R
+pub record Going (p : Statement) (labels set rounds : ℕ) : Type 0 where
+  pub reached : set ≡ afterRounds p rounds
+  pub labelled : labels ≡ codes.labels (s p) union codes.labels (d set p)
+  pub added : (j : ℕ) → j < rounds → afterRounds p (suc j) ≢ afterRounds p j
   pub counted : rounds ≤ count 64 set
-  pub room : length nodes ≤ length notes
 
-pub none-yet : (nodes notes : List ℕ) → Ready nodes notes → Going nodes notes 0 0
+pub few-rounds : (p : Statement) (labels set rounds : ℕ) → Going p labels set rounds → rounds ≤ 64
+few-rounds p labels set rounds g = let c = g .counted in let w = count-width 64 set in omega arith
+
+pub none-yet : (p : Statement) (labels : ℕ) → labels ≡ codes.labels (s p) → Going p labels 0 0
 unfolding afterRounds
-none-yet nodes notes h = record { reached = refl; added = λ j l. absurd (omega arith); counted = omega arith; room = h .room }
+none-yet p labels e = record {
+  reached = refl;
+  labelled = e ∙ sym (ap (λ (m : ℕ). codes.labels (s p) union m) (none-resumed p) ∙ union-empty (codes.labels (s p)));
+  added = λ j l. absurd (omega arith);
+  counted = omega arith;
+}
 
-pub few-rounds : (nodes notes : List ℕ) (set rounds : ℕ) → Going nodes notes set rounds → rounds ≤ 64
-few-rounds nodes notes set rounds g = let c = g .counted in let w = count-width 64 set in omega arith
-
-pub ready-passable : (nodes notes : List ℕ) → Ready nodes notes → Passable 60 nodes 0
-ready-passable nodes notes h = record { few = h .few; levels = h .levels }
-
--- a round: the labels of the pauses, as a word, and what a pass over R found
-module _ (nodes first notes notes′ : List ℕ) (ready : Ready nodes first) (set rounds : ℕ) (g : Going nodes notes set rounds)
-    (labels : ℕ) (l : labels ≡ pausesBefore nodes (length nodes)) (b : Both) (h : Passed set 60 nodes 0 b notes notes′) where
-  abbrev p : Statement
-  p = statementOf nodes
-
+module _ (p : Placed) (found : Summary) (first kept : List ℕ) (h : Summarised p found first kept) (w : found .pauses < 2 ^ 64)
+    (labels set rounds : ℕ) (g : Going (p .statement) labels set rounds) where
   abbrev next : ℕ
-  next = bitAnd labels (bitOr (b .start .labels) (b .resumed .labels))
+  next = bitAnd (found .pauses) labels
 
-  pauses-are : labels ≡ pauses p
-  unfolding pausesBefore
-  pauses-are = l ∙ ap (pausesBefore nodes) (sym (ready .whole)) ∙ pauses-at nodes deepest 0 ∙ empty-union (pauses p)
+  next-is : next ≡ afterRounds (p .statement) (suc rounds)
+  unfolding afterRounds nextR codes.labels join _union_ _intersect_
+  next-is = ap₂ bitAnd (h .labels) (g .labelled) ∙ ap (nextR (p .statement)) (g .reached)
 
-  next-is : next ≡ afterRounds p (suc rounds)
-  unfolding afterRounds nextR codes.labels join _union_ _intersect_ viewOf analysedOf codesOf
-  next-is =
-      ap₂ bitAnd pauses-are (ap₂ bitOr (ap (λ (a : Analysed). a .start .pausing) (h .found)) (ap (λ (a : Analysed). a .resumed .pausing) (h .found)))
-      ∙ ap (nextR p) (g .reached)
+  next-pauses : Within next (pauses (p .statement))
+  next-pauses = subst (λ (m : ℕ). Within m (pauses (p .statement))) (sym next-is) (afterRounds-pauses (p .statement) (suc rounds))
 
-  room-stays : length nodes ≤ length notes′
-  room-stays = let e = ap length (h .noted) in let f = pass-between set nodes 60 0 notes .same in let r = g .room in omega arith
+  grows : Within set next
+  grows = subst₂ Within (sym (g .reached)) (sym next-is) (afterRounds-grows (p .statement) rounds)
 
-  module _ (w : labels < 2 ^ 64) (n : next ≢ set) where
-    changed : afterRounds p (suc rounds) ≢ afterRounds p rounds
+  module _ (n : next ≢ set) where
+    changed : afterRounds (p .statement) (suc rounds) ≢ afterRounds (p .statement) rounds
     changed q = n (next-is ∙ q ∙ sym (g .reached))
 
     more : count 64 set < count 64 next
     more =
         subst₂ (λ (a c : ℕ). count 64 a < count 64 c) (sym (g .reached)) (sym next-is)
-        (round-adds p 64 (λ x k. below-width 64 labels x w (ap (λ (m : ℕ). has m x) pauses-are ∙ k)) rounds changed)
+        (round-adds (p .statement) 64 (label-small p found first kept h w) rounds changed)
 
-    pub goes-on : Going nodes notes′ next (rounds + 1)
-    goes-on = record {
-      reached = next-is ∙ ap (afterRounds p) (sym (add-one rounds));
+    pub goes-on : (new : ℕ) → Gathered (bitXor next set) kept new → Going (p .statement) (labels union new) next (rounds + 1)
+    goes-on new a = record {
+      reached = next-is ∙ ap (afterRounds (p .statement)) (sym (add-one rounds));
+      labelled = ap₂ _union_ (g .labelled) new-is ∙ union-assoc _ _ _ ∙ ap (λ (m : ℕ). codes.labels (s (p .statement)) union m) (sym resumed-now);
       added = λ j u. each j (omega arith) (ℕ-discrete j rounds);
       counted = let c = g .counted in let m = more in omega arith;
-      room = room-stays;
     }
       where
-        each : (j : ℕ) → j ≤ rounds → Dec (j ≡ rounds) → afterRounds p (suc j) ≢ afterRounds p j
+        own : bitXor next set ≡ next minus set
+        own = added-is next set grows
+
+        own-pauses : Within (bitXor next set) (pauses (p .statement))
+        own-pauses x k = next-pauses x (and-cases (has next x) (not (has set x)) (sym (has-minus next set x) ∙ ap (λ (m : ℕ). has m x) (sym own) ∙ k) .0)
+
+        new-is : new ≡ codes.labels (d (bitXor next set) (p .statement))
+        new-is = gathered p found first kept h w (bitXor next set) own-pauses new a
+
+        resumed-now : codes.labels (d next (p .statement)) ≡ codes.labels (d set (p .statement)) union codes.labels (d (bitXor next set) (p .statement))
+        resumed-now =
+            ap (λ (R : ℕ). codes.labels (d R (p .statement))) (sym (ap (λ (m : ℕ). set union m) own ∙ with-added next set grows))
+            ∙ ap codes.labels (d-union set (bitXor next set) (p .statement)) ∙ labels-join (d set (p .statement)) (d (bitXor next set) (p .statement))
+
+        each : (j : ℕ) → j ≤ rounds → Dec (j ≡ rounds) → afterRounds (p .statement) (suc j) ≢ afterRounds (p .statement) j
         each j u (yes e) = rw e changed
         each j u (no f) = g .added j (omega arith)
 
     -- the labels that can still be added
-    pub falls : count 64 labels - count 64 next < count 64 labels - count 64 set
+    pub falls : count 64 (found .pauses) - count 64 next < count 64 (found .pauses) - count 64 set
     falls =
         let m = more in
-        let f = count-within 64 next labels (subst₂ Within (sym next-is) (sym pauses-are) (afterRounds-pauses p (suc rounds))) in
+        let f = count-within 64 next (found .pauses) (subst (Within next) (sym (h .labels)) next-pauses) in
         omega arith
 
-  pub rests : next ≡ set → Rests nodes (record { start = b .start; set = set; rounds = rounds + 1 }) notes′
-  unfolding viewOf analysedOf
-  rests e = record {
-    start = ap (λ (a : Analysed). a .start) (h .found);
-    set = same;
-    rounds = add-one rounds ∙ sym (ap (λ (r : Reached). r .rounds) unique);
-    noted = subst₂ (λ (R : ℕ) (ns : List ℕ). Noted R deepest nodes ns 0) same (sym (h .noted)) (noted-after set nodes deepest 0 notes (g .room));
-  }
-    where
-      unique : reach p ≡ record { set = afterRounds p rounds; rounds = suc rounds }
-      unique = reach-unique p rounds (sym next-is ∙ e ∙ g .reached) (g .added)
-
-      same : set ≡ reach p .set
-      same = g .reached ∙ sym (ap (λ (r : Reached). r .set) unique)
+pub rests : (nodes : List ℕ) (found : Summary) (first kept : List ℕ) → (h : Summarised (statementAt deepest nodes 0) found first kept) → (w : found .pauses < 2 ^ 64)
+    → (labels set rounds : ℕ) → (g : Going (statementOf nodes) labels set rounds) → bitAnd (found .pauses) labels ≡ set
+    → Reaches nodes (record { start = found .start; set = set; rounds = rounds + 1 })
+rests nodes found first kept h w labels set rounds g e = record {
+  start = h .start;
+  set = g .reached ∙ sym (ap (λ (r : Reached). r .set) unique);
+  rounds = add-one rounds ∙ sym (ap (λ (r : Reached). r .rounds) unique);
+}
+  where
+    unique : reach (statementOf nodes) ≡ record { set = afterRounds (statementOf nodes) rounds; rounds = suc rounds }
+    unique = reach-unique (statementOf nodes) rounds (sym (next-is (statementAt deepest nodes 0) found first kept h w labels set rounds g) ∙ e ∙ g .reached) (g .added)

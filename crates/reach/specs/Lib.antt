@@ -1,6 +1,5 @@
 pub mod CodeSets
-pub mod Analysis
+pub mod Summaries
 pub mod Notes
-pub mod Passes
 pub mod Rounds
 pub mod Answers

@@ -1,45 +1,62 @@
 -- The notes that a pass leaves at the nodes for those who walk them later, and what they find there.
 use Prim.Native.Nat.{ℕ, zero, suc, _+_, _*_, _/_, _<_}
 use mathlib.Core.Path.{_≡_}
-use mathlib.Core.Bool.{Bool, true, false, cond, _||_}
+use mathlib.Core.Bool.{Bool, true, false, _||_}
 use mathlib.Core.List.{List}
-use lib.Dec.{ltb}
 use lib.ListN.{length, getD, set}
 use Rattle.sets.specs.Set.{has}
+use Rattle.esterel.specs.Codes.{s, d}
 use Rattle.table.specs.Kinds.{kindOf, rowOf}
 use Rattle.table.specs.Reading.{kindOfNode}
-use Rattle.table.specs.Places.{statementAt}
-use Rattle.reach.specs.CodeSets.{flagOf}
-use Rattle.reach.specs.Analysis.{Analysed, analysedOf}
+use Rattle.table.specs.Places.{Placed, statementAt}
+use Rattle.reach.specs.declared.summary.Summary.{Summary}
+use Rattle.reach.specs.CodeSets.{codesOf, flagOf}
+use Rattle.reach.specs.Summaries.{EndsAlone}
 
--- the note of a node, of its first child: the place after it, and whether it can end, resumed and started
-unfoldable pub noteOf : Analysed → ℕ
-noteOf p = p .next * 4 + flagOf (p .resumed .ends) * 2 + flagOf (p .start .ends)
+-- by the number of children of a node
+abbrev pub forChildren : ℕ → Type 0 → Type 0 → Type 0 → Type 0
+forChildren zero own first second = Unit {0}
+forChildren (suc zero) own first second = own × first
+forChildren (suc (suc n)) own first second = own × first × second
 
--- the notes after a pass over the statement at a place; only a node with children is noted
-unfoldable pub noteBelow : ℕ → (ℕ → Analysed) → (ℕ → List ℕ → List ℕ) → ℕ → List ℕ → List ℕ
-noteBelow zero child pass at notes = notes
-noteBelow (suc zero) child pass at notes = set (pass (at + 1) notes) at (noteOf (child (at + 1)))
-noteBelow (suc (suc n)) child pass at notes = let p = child (at + 1) in pass (p .next) (set (pass (at + 1) notes) at (noteOf p))
+-- each node with children of the statement at a place is noted as Own says of the node's place, its kind and its first child
+unfoldable pub Noted : (ℕ → ℕ → Placed → Type 0) → List ℕ → ℕ → ℕ → Type 0
+Noted Own nodes zero at = Unit {0}
+Noted Own nodes (suc left) at =
+    forChildren (rowOf (kindOf (kindOfNode (getD nodes at 0))) .children)
+    (Own at (kindOfNode (getD nodes at 0)) (statementAt left nodes (at + 1)))
+    (Noted Own nodes left (at + 1)) (Noted Own nodes left (statementAt left nodes (at + 1) .next))
 
-unfoldable pub notesAfter : ℕ → ℕ → List ℕ → ℕ → List ℕ → List ℕ
-notesAfter R zero nodes at notes = notes
-notesAfter R (suc left) nodes at notes =
-    cond (ltb at (length nodes))
-    (noteBelow (rowOf (kindOf (kindOfNode (getD nodes at 0))) .children) (λ at′. analysedOf R (statementAt left nodes at′)) (notesAfter R left nodes) at notes)
-    notes
+-- ---- Before R is known
+-- of a node's first child: the place after it, and whether it can end where it is started; and beside the note the labels
+-- from which alone it can end
+unfoldable pub openNote : Placed → ℕ
+openNote p = p .next * 4 + flagOf (s (p .statement) .ends)
 
--- every node with children of the statement at a place has its note
-unfoldable pub NotedBelow : ℕ → (ℕ → Analysed) → (ℕ → Type 0) → ℕ → ℕ → Type 0
-NotedBelow zero child noted note at = Unit {0}
-NotedBelow (suc zero) child noted note at = (note ≡ noteOf (child at)) × noted at
-NotedBelow (suc (suc n)) child noted note at = (note ≡ noteOf (child at)) × noted at × noted (child at .next)
+abbrev pub Opens : List ℕ → List ℕ → ℕ → ℕ → Placed → Type 0
+Opens notes endings at kind p = (getD notes at 0 ≡ openNote p) × EndsAlone (getD endings at 0) (p .statement)
 
-unfoldable pub Noted : ℕ → ℕ → List ℕ → List ℕ → ℕ → Type 0
-Noted R zero nodes notes at = Unit {0}
-Noted R (suc left) nodes notes at =
-    at < length nodes
-    → NotedBelow (rowOf (kindOf (kindOfNode (getD nodes at 0))) .children) (λ at′. analysedOf R (statementAt left nodes at′)) (Noted R left nodes notes) (getD notes at 0) (at + 1)
+-- what was found of a first child was noted at a node
+pub record Wrote (first : Summary) (at : ℕ) (r : Summary) (notes endings notes′ endings′ : List ℕ) : Type 0 where
+  pub same : r ≡ first
+  pub note : notes′ ≡ set notes at (first .next * 4 + flagOf (codesOf (first .start) .ends))
+  pub ending : endings′ ≡ set endings at (first .ending)
+
+-- no place before `at` was written
+pub record From (at : ℕ) (xs ys : List ℕ) : Type 0 where
+  pub size : length ys ≡ length xs
+  pub low : (i : ℕ) → i < at → getD ys i 0 ≡ getD xs i 0
+
+-- a pass over the statement at a place, with the notes before and after it
+pub record Opened (left : ℕ) (nodes : List ℕ) (at : ℕ) (notes endings notes′ endings′ : List ℕ) : Type 0 where
+  pub noted : Noted (Opens notes′ endings′) nodes left at
+  pub notes-from : From at notes notes′
+  pub endings-from : From at endings endings′
+
+-- ---- For R
+-- of a node's first child: the place after it, and whether it can end, resumed and started
+unfoldable pub noteOf : ℕ → Placed → ℕ
+noteOf R p = p .next * 4 + flagOf (d R (p .statement) .ends) * 2 + flagOf (s (p .statement) .ends)
 
 -- what a note says: the place of the second child
 unfoldable pub secondOf : ℕ → ℕ

@@ -13,15 +13,6 @@ pub struct CodeSet {
     pub exits: u64,
 }
 
-pub fn none() -> CodeSet
-    ensures { λ r. ⌜ codesOf r ≡ set.none ⌝ }
-{
-    CodeSet {
-        labels: 0,
-        exits: 0,
-    }
-}
-
 pub fn just_ended() -> CodeSet
     ensures { λ r. ⌜ codesOf r ≡ set.justEnded ⌝ }
 {

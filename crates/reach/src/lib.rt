@@ -1,13 +1,15 @@
-// Reach: rounds of one pass over the nodes of a statement, which find the labels that can ever be reached.
+// Reach: one pass over the nodes for a summary of the statement, then rounds over it until none adds a label. The pass leaves
+// notes at the nodes, for trim.
 pub mod codes;
 pub mod pass;
+pub mod summary;
 
 use codes::CodeSet;
 use table::Checked;
 ghost use mathlib.Core.Path.{_≡_};
 ghost use lib.ListN.{length};
 ghost use Rattle.reach.specs.Answers.{reachOf};
-ghost use Rattle.reach.specs.Rounds.{pauseLabel, pausesBefore, Ready, Rests};
+ghost use Rattle.reach.specs.Rounds.{Sound, Ready, Reaches, Rests};
 
 // What the rounds come to: the codes of the started statement, R, and the number of rounds.
 pub struct Settled {
@@ -16,49 +18,52 @@ pub struct Settled {
     pub rounds: u32,
 }
 
-// The label of a pause as a set; no label for another node.
-fn pause_label(node: u16) -> u64
-    ensures { λ r. ⌜ r ≡ pauseLabel node ⌝ }
+// Rounds until one adds no label, with room lent for the summary and the notes. The nodes are passed over once; a round joins
+// what the summary has of the labels that the round before it added.
+fn rounds_with(
+    nodes: &[u16; 1024],
+    kept: &mut [u64; 128],
+    notes: &mut [u16; 1024],
+    endings: &mut [u64; 1024],
+) -> Settled
+    requires { ⌜ Ready (now nodes) (now notes) (now endings) × (length (now kept) ≡ 128) ⌝ }
+    ensures { λ r. ⌜ Rests (now (nodes .entry)) r (now (notes .exit)) (now (endings .exit)) ⌝ }
 {
-    if table::kind_of(node) == 1 {
-        sets::singleton(table::operand_of(node))
-    } else {
-        0
-    }
-}
-
-// The labels of the pauses among the nodes.
-fn pause_labels(nodes: &[u16]) -> u64
-    ensures { λ r. ⌜ r ≡ pausesBefore (now (nodes .entry)) (length (now (nodes .entry))) ⌝ }
-{
-    let mut set: u64 = 0;
-    let mut i: usize = 0;
-    while i < nodes.len() {
-        set |= pause_label(nodes[i]);
-        i += 1;
-    }
-    set
-}
-
-// Rounds until one adds no label. Each is one pass over the nodes; the notes stay from the last.
-pub fn settle(nodes: &[u16], notes: &mut [u16; 1024]) -> Settled
-    requires { ⌜ Ready (now nodes) (now notes) ⌝ }
-    ensures { λ r. ⌜ Rests (now (nodes .entry)) r (now (notes .exit)) ⌝ }
-{
-    let pauses = pause_labels(nodes);
+    let found = summary::summary_at(nodes, 0, 60, kept, notes, endings);
+    let start = found.start;
+    let pauses = found.pauses;
+    let mut labels = start.labels;
     let mut set: u64 = 0;
     let mut rounds: u32 = 0;
     loop {
-        let codes = pass::note_at(nodes, 0, 60, set, notes);
-        let start = codes.start;
-        let resumed = codes.resumed;
-        let next = pauses & (start.labels | resumed.labels);
+        let next = pauses & labels;
         rounds += 1;
         if next == set {
             break Settled { start, set, rounds };
         }
+        labels |= summary::labels_from(kept, next ^ set);
         set = next;
     }
+}
+
+// The rounds over the nodes of a statement. Those who walk the nodes with R find at each node with children its note, and the
+// labels from which alone its first child can end.
+pub fn settle(nodes: &[u16; 1024], notes: &mut [u16; 1024], endings: &mut [u64; 1024]) -> Settled
+    requires { ⌜ Ready (now nodes) (now notes) (now endings) ⌝ }
+    ensures { λ r. ⌜ Rests (now (nodes .entry)) r (now (notes .exit)) (now (endings .exit)) ⌝ }
+{
+    let mut kept = [0u64; 128];
+    rounds_with(nodes, &mut kept, notes, endings)
+}
+
+// The rounds alone.
+fn rounds_of(nodes: &[u16; 1024]) -> Settled
+    requires { ⌜ Sound (now nodes) ⌝ }
+    ensures { λ r. ⌜ Reaches (now (nodes .entry)) r ⌝ }
+{
+    let mut notes = [0u16; 1024];
+    let mut endings = [0u64; 1024];
+    settle(nodes, &mut notes, &mut endings)
 }
 
 // Reach's answer.
@@ -74,18 +79,16 @@ pub enum Reached {
     },
 }
 
-// Reach, with room lent for the nodes and their notes.
-fn reach_with(table: &[u8], nodes: &mut [u16; 1024], notes: &mut [u16; 1024]) -> Reached
-    requires { ⌜ length (now notes) ≡ 1024 ⌝ }
+// Reach, with room lent for the nodes.
+fn reach_with(table: &[u8], nodes: &mut [u16; 1024]) -> Reached
+    requires { ⌜ length (now nodes) ≡ 1024 ⌝ }
     ensures { λ r. ⌜ r ≡ reachOf (now (table .entry)) ⌝ }
 {
     let checked = table::load(table, nodes);
-    let Checked::Accepted(n) = checked else {
+    let Checked::Accepted(_) = checked else {
         return Reached::Refused(table::refusal(checked));
     };
-    let count = n as usize;
-    let loaded = &nodes[..];
-    let found = settle(&loaded[..count], notes);
+    let found = rounds_of(nodes);
     let start = found.start;
     Reached::Found {
         ends: codes::ends(start),
@@ -100,6 +103,5 @@ pub fn reach(table: &[u8]) -> Reached
     ensures { λ r. ⌜ r ≡ reachOf (now (table .entry)) ⌝ }
 {
     let mut nodes = [0u16; 1024];
-    let mut notes = [0u16; 1024];
-    reach_with(table, &mut nodes, &mut notes)
+    reach_with(table, &mut nodes)
 }

@@ -1,13 +1,13 @@
 -- How many members a set has below w: a set strictly within another has fewer.
 use mathlib.Core.Path.{_≡_, refl, sym, ap, _∙_}
 use mathlib.Core.Logic.{_≢_, _⊎_, inl, inr}
-use mathlib.Core.Bool.{Bool, true, false, _||_, cond}
+use mathlib.Core.Bool.{Bool, true, false, not, _||_, cond}
 use Prim.Native.Nat.{ℕ, zero, suc, _+_, _≤_, _<_}
 use native.Mathlib.Decide.{ℕ-discrete}
 use native.Mathlib.Omega.{arith}
-use Rattle.sets.specs.Set.{has, only, _union_, Within}
-use Rattle.sets.proofs.Booleans.{clash}
-use Rattle.sets.proofs.Members.{has-empty, has-union, has-only, has-only-other}
+use Rattle.sets.specs.Set.{has, only, _union_, _without_, Within}
+use Rattle.sets.proofs.Booleans.{and-cases, clash}
+use Rattle.sets.proofs.Members.{has-empty, has-union, has-minus, has-only, has-only-other, has-without-same}
 
 unfoldable pub count : ℕ → ℕ → ℕ
 count zero m = 0
@@ -32,6 +32,10 @@ count-more (suc w) a b x f l u v = go (λ (h : x < w). count-more w a b x f h u 
     go : (x < w → count w a < count w b) → Dec (x ≡ w) → count (suc w) a < count (suc w) b
     go ih (yes e) = rw (← e, u, v) (let i = count-within x a b f in omega arith)
     go ih (no h) = let i = ih (omega arith) in let j = bit-mono (has a w) (has b w) (f w) in omega arith
+
+-- one member fewer
+pub count-without : (w m x : ℕ) → x < w → has m x ≡ true → count w (m without x) < count w m
+count-without w m x l h = count-more w (m without x) m x (λ y k. and-cases (has m y) (not (has (only x) y)) (sym (has-minus m (only x) y) ∙ k) .0) l (has-without-same m x) h
 
 -- a member of b below w that a lacks, or there is none
 abbrev pub Lacks : ℕ → ℕ → ℕ → Type 0

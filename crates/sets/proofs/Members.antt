@@ -3,12 +3,13 @@ use mathlib.Core.Path.{_≡_, refl, sym, ap, ap₂, _∙_, subst}
 use mathlib.Core.Logic.{_≢_, _⊎_, inl, inr}
 use mathlib.Core.Bool.{Bool, true, false, not, _&&_, _||_, true≢false, false≢true}
 use lib.Pow.{pow-add, pow-lt}
-use Prim.Native.Nat.{ℕ, zero, suc, _+_, _-_, _*_, _/_, _%_, _^_, _≤_, _<_}
+use Prim.Native.Nat.{ℕ, zero, suc, _+_, _-_, _*_, _/_, _%_, _^_, _≤_, _<_, suc-le-suc}
 use native.Mathlib.Nat.{div-one, div-div-eq-div-mul, mul-comm, pow-suc, mul-div-cancel, mul-mod-left, mod-lt, mod-eq-of-lt, not-suc-le-zero, le-of-suc-le-suc}
 use native.Mathlib.Decide.{decLe, ℕ-discrete}
 use native.Mathlib.Omega.{arith}
 use lib.Arith.{bin-ind}
 use lib.Bits.{bitOr, bitAnd, bitXor, and-mask, or-shr, and-shr, xor-shr, or-mod, and-mod, xor-mod, or-self, or-zero-r}
+use lib.Count.{trailingZeros}
 use lib.Dec.{eqb, eqb→eq, T}
 use Rattle.sets.specs.Set.{has, only, _union_, _intersect_, _minus_, _without_, Within, Apart}
 use Rattle.sets.proofs.Booleans.{or-left, or-right, or-cases, or-neither, or-swap, and-cases, clash, not-true, eqb-equal, eqb-differ}
@@ -255,3 +256,29 @@ some-member = bin-ind (λ (m : ℕ). m ≢ 0 → (x : ℕ) × (has m x ≡ true)
     go : (n : ℕ) → (n / 2 ≢ 0 → (x : ℕ) × (has (n / 2) x ≡ true)) → n ≢ 0 → (n % 2 ≡ 0) ⊎ (n % 2 ≡ 1) → (x : ℕ) × (has n x ≡ true)
     go n ih h (inr e) = (0, ap (λ (z : ℕ). eqb z 1) e)
     go n ih h (inl e) = let (x, k) = ih (λ z. h (omega arith)) in (suc x, k)
+
+-- ---- the least member, where a program counts the zeros below it
+module _ (w m : ℕ) (h : m < 2 ^ suc w) (z : m ≢ 0) (e : m % 2 ≡ 0) where
+  half-small : m / 2 < 2 ^ w
+  half-small = let g : m < 2 ^ w * 2 = rw pow-suc at h in omega arith
+
+  half-some : m / 2 ≢ 0
+  half-some q = z (omega arith)
+
+pub least-within : (w m : ℕ) → m < 2 ^ w → m ≢ 0 → trailingZeros w m < w
+unfolding trailingZeros
+least-within zero m h z = absurd (z (omega arith))
+least-within (suc w) m h z = go (least-within w (m / 2)) (bit m)
+  where
+    go : (m / 2 < 2 ^ w → m / 2 ≢ 0 → trailingZeros w (m / 2) < w) → (m % 2 ≡ 0) ⊎ (m % 2 ≡ 1) → trailingZeros (suc w) m < suc w
+    go ih (inl e) = rw e (suc-le-suc (ih (half-small w m h z e) (half-some w m h z e)))
+    go ih (inr e) = rw e (omega arith)
+
+pub least-member : (w m : ℕ) → m < 2 ^ w → m ≢ 0 → has m (trailingZeros w m) ≡ true
+unfolding trailingZeros has
+least-member zero m h z = absurd (z (omega arith))
+least-member (suc w) m h z = go (least-member w (m / 2)) (bit m)
+  where
+    go : (m / 2 < 2 ^ w → m / 2 ≢ 0 → has (m / 2) (trailingZeros w (m / 2)) ≡ true) → (m % 2 ≡ 0) ⊎ (m % 2 ≡ 1) → has m (trailingZeros (suc w) m) ≡ true
+    go ih (inl e) = rw e (ih (half-small w m h z e) (half-some w m h z e))
+    go ih (inr e) = rw e (ap (λ (n : ℕ). eqb n 1) e)

@@ -1,7 +1,9 @@
 // Sets of the numbers 0 to 63, a bit each.
 ghost use mathlib.Core.Path.{_≡_};
-ghost use Prim.Native.Nat.{_%_, _^_};
-ghost use Rattle.sets.specs.Set.{has, only};
+ghost use mathlib.Core.Logic.{_≢_};
+ghost use mathlib.Core.Bool.{true};
+ghost use Prim.Native.Nat.{_%_, _^_, _<_};
+ghost use Rattle.sets.specs.Set.{has, only, _without_};
 
 // Whether the number is in the set.
 pub fn contains(set: u64, number: u8) -> bool
@@ -19,4 +21,20 @@ pub fn singleton(number: u8) -> u64
     ensures { λ r. ⌜ r ≡ only number % 2 ^ 64 ⌝ }
 {
     if number < 64 { 1 << number } else { 0 }
+}
+
+// The least member of a set that has one.
+pub fn least(set: u64) -> u8
+    requires { ⌜ set ≢ 0 ⌝ }
+    ensures { λ r. ⌜ (r < 64) × (has set r ≡ true) ⌝ }
+{
+    u64::trailing_zeros(set) as u8
+}
+
+// The members other than the number.
+pub fn without(set: u64, number: u8) -> u64
+    requires { ⌜ number < 64 ⌝ }
+    ensures { λ r. ⌜ r ≡ set without number ⌝ }
+{
+    set ^ set & 1 << number
 }

@@ -17,18 +17,16 @@ use Rattle.table.specs.declared.Checked.{Checked}
 use Rattle.table.specs.declared.Checked.the-variants as checked
 use Rattle.table.specs.Bits.{Below}
 use Rattle.table.specs.Reading as reading
-use Rattle.table.specs.Reading.{Table, refused, holds, tableOf, checkOf, nodesOf, deepest}
+use Rattle.table.specs.Reading.{Table, refused, holds, tableOf, checkOf, deepest}
 use Rattle.table.specs.Loading.{loadedOf}
 use Rattle.table.specs.Places.{Placed}
 use Rattle.table.specs.Writing.{nodes, write, Allowed}
-use Rattle.table.proofs.Accepted.{accepted}
-use Rattle.table.proofs.Cutting.{length-nodesOf}
-use Rattle.table.proofs.Loading.{load-accepted}
+use Rattle.table.proofs.Accepted.{accepted, check-accepted}
+use Rattle.table.proofs.Loading.{placed-loaded}
 use Rattle.table.proofs.Nodes.{length-nodes}
-use Rattle.table.proofs.Places.{placed-table}
 use Rattle.table.proofs.RoundTrip.{below-nodes, valid-ranged, read-written}
 use Rattle.reach.specs.Rounds.{statementOf}
-use Rattle.reach.proofs.Answers.{table-statement}
+use Rattle.reach.proofs.Answers.{loaded-statement, loaded-length}
 use Rattle.trim.specs.declared.work.Part.{Part}
 use Rattle.trim.specs.declared.Written.{Written}
 use Rattle.trim.specs.declared.Trimmed.{Trimmed}
@@ -36,17 +34,16 @@ use Rattle.trim.specs.declared.Trimmed.the-variants.{Refused, Accepted}
 use Rattle.trim.specs.Answers.{writtenOf, answerFor, bufferAfter, bufferFor, answerOf, leftOf, trimOf, bufferOf}
 use Rattle.trim.specs.Root.{Tree, Ends, Fields, Finished}
 
--- ---- the nodes of an accepted table
+-- ---- the buffer with the nodes of an accepted table
 
-table-tree : (t : List ℕ) (n : ℕ) (p : Statement) → tableOf t ≡ holds n p → Tree (nodesOf t n)
-table-tree t n p h =
+loaded-tree : (t old : List ℕ) (n : ℕ) (p : Statement) → tableOf t ≡ holds n p → length old ≡ 1024 → Tree (loadedOf t old)
+loaded-tree t old n p h l =
     let a = accepted t n p h in
     let few = a .header .few in
-    let count = length-nodesOf t n in
-    let is : statementOf (nodesOf t n) ≡ p = table-statement t n p h in
+    let is : statementOf (loadedOf t old) ≡ p = loaded-statement t old n p h in
     record {
-      few = omega arith;
-      whole = ap (λ (x : Placed). x .next) (placed-table t n p h) ∙ sym count;
+      all = loaded-length t old n p h l;
+      few = subst (λ (x : Placed). x .next ≤ 1024) (sym (placed-loaded t old n p h)) few;
       valid = subst (Valid 0) (sym is) (a .valid);
       shallow = subst (λ (q : Statement). depth q ≤ deepest) (sym is) (a .deep);
       small = subst (λ (q : Statement). size q ≤ 1024) (sym is) (omega (arith, a .count));
@@ -64,20 +61,21 @@ module _ (t old new : List ℕ) (c : Checked) (h : (c ≡ checkOf t) × (new ≡
       go (holds n p) q = absurd (let z : _≡_ {A = ℕ} 0 1 = cc in omega arith)
 
   module _ (n : ℕ) (e : c ≡ checked.Accepted n) where
-    held : (p : Statement) × (tableOf t ≡ holds n p) × (take n new ≡ nodesOf t n)
-    held = load-accepted t old new n (sym (h .0) ∙ e) (h .1)
+    held : (p : Statement) × (tableOf t ≡ holds n p)
+    held = check-accepted t n (sym (h .0) ∙ e)
 
-    pub front-tree : Tree (take n new)
-    front-tree = subst Tree (sym (held .2)) (table-tree t n (held .0) (held .1))
+    pub front-tree : length old ≡ 1024 → Tree new
+    front-tree l = subst Tree (sym (h .1)) (loaded-tree t old n (held .0) (held .1) l)
 
-    module _ (part : Part) (work : List ℕ) (E : Ends (trimmed (statementOf (take n new))) part work) where
-      pub end-fields : length work ≡ 4096 → Fields part work
-      end-fields l =
-          let q : Statement = trimmed (statementOf (take n new)) in
+    module _ (part : Part) (work : List ℕ) (E : Ends (trimmed (statementOf new)) part work) where
+      pub end-fields : length old ≡ 1024 → length work ≡ 4096 → Fields part work
+      end-fields k l =
+          let q : Statement = trimmed (statementOf new) in
           let count : size q ≡ length work - part .from = sym (length-nodes q) ∙ ap length (sym (E .stands)) ∙ length-drop (part .from) work in
-          let few = size-trimmed (statementOf (take n new)) in
-          let small = front-tree .small in
-          let valid : Valid 0 q = valid-trimmed (statementOf (take n new)) (front-tree .shallow) (front-tree .valid) in
+          let few = size-trimmed (statementOf new) in
+          let tree = front-tree k in
+          let small = tree .small in
+          let valid : Valid 0 q = valid-trimmed (statementOf new) (tree .shallow) (tree .valid) in
           record {
             within = E .within;
             few = omega arith;
@@ -88,7 +86,7 @@ module _ (t old new : List ℕ) (c : Checked) (h : (c ≡ checkOf t) × (new ≡
       pub trim-done : (r : Trimmed) (out′ : List ℕ) → Finished work part out r out′ → (r ≡ trimOf t (length out)) × (out′ ≡ bufferOf t out)
       unfolding Finished trimOf bufferOf answerOf leftOf
       trim-done r out′ F =
-          let now : statementOf (take n new) ≡ held .0 = ap statementOf (held .2) ∙ table-statement t n (held .0) (held .1) in
+          let now : statementOf new ≡ held .0 = ap statementOf (h .1) ∙ loaded-statement t old n (held .0) (held .1) in
           let got = F (trimmed (held .0)) (subst (λ (p : Statement). Ends (trimmed p) part work) now E) in
           (got .0 ∙ sym (ap (λ (T : Table). answerOf T (length out)) (held .1)), got .1 ∙ sym (ap (λ (T : Table). leftOf T out) (held .1)))
 

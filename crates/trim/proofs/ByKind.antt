@@ -57,8 +57,8 @@ module _ {R : ℕ} {xs notes : List ℕ} {at left : ℕ} {a : Around} {places wo
       placed-node n ∙ ap (λ (z : Kind). placeKind z operand (statementAt (left - 1) xs) (at + 1)) (kind-unused k h) in
       rw e (trimmed-none R at left a places work to (at + 1) (omega arith))
 
-  pub leaf-room : {k : ℕ} → Node left xs at k → (1 ≤ to) × (to ≤ length work)
-  leaf-room n = (let r = N .room in let s = next-after n in omega arith, N .to-in)
+  pub leaf-room : {k : ℕ} → Node left xs at k → (1 ≤ to) × (to ≤ 4096) × (to ≤ length work)
+  leaf-room n = (let r = N .room in let s = next-after n in omega arith, omega (arith, N .to-in, N .work-is), N .to-in)
 
   -- an operand in its range stands in the node as it is
   abbrev SaysOperand : ℕ → Type 0
@@ -117,7 +117,7 @@ module _ {R : ℕ} {xs notes : List ℕ} {at left : ℕ} {a : Around} {places wo
   pub exit-ready : Node left xs at 4 → (o : ℕ) → o ≡ operand → ExitReady places a o
   exit-ready n o e =
       let v = exit-level n in
-      rw e (record { least = v .0; most = v .1; wide = let r = N .tries-in in let s = N .wide in omega arith; low = N .low })
+      rw e (record { least = v .0; most = v .1; wide = let r = N .tries-in in omega arith; low = N .low })
 
   exit-caught : Node left xs at 4 → a .started ≡ true → 1 ≤ levelOut places a operand
   unfolding placeKind kindOf kinds levelOut trim endsAt
@@ -170,7 +170,7 @@ module _ {R : ℕ} {xs notes : List ℕ} {at left : ℕ} {a : Around} {places wo
       (trimmed-one R at left a places work to (n .some) (N .to-in) (signal operand) (nodeOf 5 operand) z (signal operand (first .statement)) first a places places₁ work₁ work₂ v r
       (trimmed-signal R places a operand (first .statement)
       ∙ ap (λ (b : Bool). cond b (signal operand (trimmedIn R places a (first .statement))) (trimmedIn R places a (first .statement))) (sym (e ∙ P .made .names-are operand)))
-      (P .same) (record { nodes-are = λ p. ap (λ (m : ℕ). m ∷ nodes p) (sym (signal-node n)); some = λ p. refl; deep = λ p. refl; names-are = λ S p. refl }) P W)
+      (P .same) refl (record { nodes-are = λ p. ap (λ (m : ℕ). m ∷ nodes p) (sym (signal-node n)); some = λ p. refl; deep = λ p. refl; names-are = λ S p. refl }) P W)
 
   pub at-loop : Node left xs at 9 → (z : Bool) (a′ : Around) (v r : Part) (places₁ work₁ work₂ : List ℕ) → z ≡ endsOf (getD notes at 0) (a .started)
       → a′ ≡ startedIf (z || a .started) a → Done R first (at + 1) (left - 1) a′ places work to v places₁ work₁ → Wrapped (nodeOf 9 0) z work₁ to v r work₂ → Got r places₁ work₂
@@ -182,7 +182,7 @@ module _ {R : ℕ} {xs notes : List ℕ} {at left : ℕ} {a : Around} {places wo
       (trimmed-loop R places a (first .statement)
       ∙ ap (λ (b : Bool). wrapIf loop b (trimmedIn R places (startedIf (b || a .started) a) (first .statement))) (sym q)
       ∙ ap (λ (c : Around). wrapIf loop z (trimmedIn R places c (first .statement))) (sym f))
-      (λ i l. P .same i (subst (λ (c : Around). i ≤ c .tries) (sym f) l))
+      (λ i l. P .same i (subst (λ (c : Around). i ≤ c .tries) (sym f) l)) refl
       (record { nodes-are = λ p. refl; some = λ p. refl; deep = λ p. refl; names-are = λ S p. refl }) P W)
 
   pub at-try : Node left xs at 10 → (z : Bool) (a′ : Around) (v r : Part) (places₁ places₂ work₁ work₂ : List ℕ) → z ≡ keptOf (getD notes at 0) (a .started)
@@ -195,7 +195,7 @@ module _ {R : ℕ} {xs notes : List ℕ} {at left : ℕ} {a : Around} {places wo
       (trimmed-one R at left a places work to (n .some) (N .to-in) try (nodeOf 10 0) z (try (first .statement)) first a′ places₁ places₂ work₁ work₂ v r
       (trimmed-try R places a (N .low) (first .statement) fit z (sym q)
       ∙ ap₂ (λ (l : List ℕ) (c : Around). wrapIf try z (trimmedIn R l c (first .statement))) (sym g) (sym f))
-      (λ i l. P .same i (more i l) ∙ ap (λ (m : List ℕ). getD m i 0) g ∙ places-same places a fit i l)
+      (λ i l. P .same i (more i l) ∙ ap (λ (m : List ℕ). getD m i 0) g ∙ places-same places a fit i l) (ap length g ∙ length-set places (a .tries + 1) (a .kept))
       (record { nodes-are = λ p. refl; some = λ p. refl; deep = λ p. refl; names-are = λ S p. refl }) P W)
     where
       fit : a .tries + 1 < length places

@@ -7,13 +7,13 @@ use Prim.Native.Nat.{ℕ, _-_, _≤_, _<_, zero-le}
 use native.Mathlib.Omega.{arith}
 use borrow.Author.Tests.{lt-ltb, le-ltb}
 use lib.Dec.{ltb}
-use lib.ListN.{length, take, drop, length-drop}
+use lib.ListN.{length, getD, take, drop, length-drop}
 use lib.Seq.{drop-at, drop-length, length-take-le, take-all}
 use Rattle.sets.proofs.Booleans.{or-left, or-right}
 use Rattle.esterel.specs.Statement.{Statement, size, depth}
 use Rattle.esterel.specs.Reachability.{reach}
 use Rattle.esterel.specs.Trimming.{isNothing, trimmed}
-use Rattle.esterel.proofs.Validity.{valid-levels, valid-trimmed, size-trimmed}
+use Rattle.esterel.proofs.Validity.{valid-trimmed, size-trimmed}
 use Rattle.table.specs.Reading.{lengthOf, deepest}
 use Rattle.table.specs.Places.{statementAt}
 use Rattle.table.specs.Writing.{nodes, writeNodes, write, Writable}
@@ -30,9 +30,8 @@ use Rattle.trim.specs.Levels.{levelOut, trimmedIn}
 use Rattle.trim.specs.Marking.{Marks}
 use Rattle.trim.specs.Parts.{part, Made, Filled, Ready, Done}
 use Rattle.trim.specs.Answers.{writtenOf, answerFor, bufferAfter, bufferFor}
-use Rattle.trim.specs.Root.{Tree, Lent, Ends, Fields, Finished}
+use Rattle.trim.specs.Root.{Tree, Ends, Fields, Finished}
 use Rattle.trim.proofs.Levels.{map-closed}
-use Rattle.trim.proofs.Notes.{reach-notes}
 use Rattle.trim.proofs.Parts.{puts-length}
 
 part-size : (t : Statement) → length (part t) ≤ size t
@@ -49,9 +48,8 @@ root = record { started = true; tries = 0; kept = 0 }
 -- ---- trimming the root
 
 module _ (xs : List ℕ) (T : Tree xs) where
-  pub settle-ready : (notes : List ℕ) → length notes ≡ 1024 → rounds.Ready xs notes
-  settle-ready notes l =
-      record { few = T .few; room = (let f = T .few in omega arith); whole = T .whole; levels = valid-levels 0 (statementOf xs) (T .valid) }
+  pub settle-ready : (notes endings : List ℕ) → length notes ≡ 1024 → length endings ≡ 1024 → rounds.Ready xs notes endings
+  settle-ready notes endings n e = record { sound = record { all = T .all; valid = T .valid }; notes-are = n; endings-are = e }
 
   -- no exit leaves the root, so its levels are those of the trimmed statement
   root-is : (R : ℕ) (places : List ℕ) → R ≡ reach (statementOf xs) .set → trimmedIn R places root (statementOf xs) ≡ trimmed (statementOf xs)
@@ -60,49 +58,48 @@ module _ (xs : List ℕ) (T : Tree xs) where
       ap (λ (r : ℕ). trimmedIn r places root (statementOf xs)) e
       ∙ map-closed (levelOut places root) 0 (trimmed (statementOf xs)) (valid-trimmed (statementOf xs) (T .shallow) (T .valid))
 
-  module _ (notes₁ notes₂ places work : List ℕ) (L : Lent notes₂ places work) (found : Settled) (r : Rests xs found notes₁) where
-    pub root-ready : (e : Exits) → Marks xs 60 0 notes₁ e notes₂ → Ready (found .set) xs notes₂ 0 60 root places work (length work)
-    unfolding Marks
+  module _ (notes₁ endings notes₂ places work : List ℕ) (wide : length places ≡ 64) (outermost : getD places 0 0 ≡ 0) (long : length work ≡ 4096) (found : Settled)
+      (r : Rests xs found notes₁ endings) where
+    pub root-ready : (e : Exits) → Marks (found .set) xs endings 60 0 notes₁ e notes₂ → Ready (found .set) xs notes₂ 0 60 root places work 4096
     root-ready e M =
-        rw (r .set) (record {
+        record {
           valid = T .valid;
-          noted = M (reach (statementOf xs) .set) (reach-notes (reach (statementOf xs) .set) xs notes₁ 60 0 (r .noted)) .noted;
-          all = let f = T .few in omega (arith, L .notes-are);
-          room = let f = T .few in let w = T .whole in omega (arith, L .work-is);
-          to-in = omega arith;
+          noted = M .marked (r .noted) .noted;
+          all = T .all;
+          room = let f = T .few in omega arith;
+          to-in = omega (arith, long);
+          work-is = long;
           tries-in = omega arith;
           kept-in = omega arith;
-          wide = omega (arith, L .places-are);
-          low = λ i l. let e : i ≡ 0 = omega arith in rw e (omega (arith, L .outermost));
+          wide = wide;
+          low = λ i l. let e : i ≡ 0 = omega arith in rw e (omega (arith, outermost));
           caught = λ d l h. absurd (omega arith);
-        })
+        }
 
-    module _ (p : Part) (places′ work₁ : List ℕ) (D : Done (found .set) (statementAt 60 xs 0) 0 60 root places work (length work) p places′ work₁) where
+    module _ (p : Part) (places′ work₁ : List ℕ) (D : Done (found .set) (statementAt 60 xs 0) 0 60 root places work 4096 p places′ work₁) where
       abbrev result : Statement
       result = trimmed (statementOf xs)
 
-      made : Made result work (length work) p work₁
-      made = subst (λ (t : Statement). Made t work (length work) p work₁) (root-is (found .set) places (r .set)) (D .made)
+      made : Made result work 4096 p work₁
+      made = subst (λ (t : Statement). Made t work 4096 p work₁) (root-is (found .set) places (r .reaches .set)) (D .made)
 
-      pub root-room : (1 ≤ p .from) × (p .from ≤ length work₁)
+      pub root-room : (1 ≤ p .from) × (p .from ≤ 4096)
       root-room =
           let e = made .puts .from-is in
-          let n = puts-length (part result) work work₁ (length work) (p .from) (omega arith) (made .puts) in
           let s = size-trimmed (statementOf xs) in
-          let w = L .work-is in
           let f = T .small in
           (omega (arith, part-size result), omega arith)
 
-      pub root-ends : (v : Part) (work₂ : List ℕ) → Filled work₁ (length work) p v work₂ → Ends result v work₂
+      pub root-ends : (v : Part) (work₂ : List ℕ) → Filled work₁ 4096 p v work₂ → Ends result v work₂
       root-ends v work₂ F =
-          let W = F .made result work (omega arith) made in
+          let W = F .made result work (omega (arith, long)) made in
           let e = W .puts .from-is in
-          let l : length (take (v .from) work) ≡ v .from = length-take-le (v .from) work (omega arith) in
+          let l : length (take (v .from) work) ≡ v .from = length-take-le (v .from) work (omega (arith, long)) in
           record {
             stands =
-                ap (drop (v .from)) (W .puts .put) ∙ drop-at (take (v .from) work) (nodes result ++ drop (length work) work) (v .from) l
-                ∙ ap (λ (m : List ℕ). nodes result ++ m) (drop-length work) ∙ append-nil (nodes result);
-            within = let n = puts-length (nodes result) work work₂ (length work) (v .from) (omega arith) (W .puts) in omega arith;
+                ap (drop (v .from)) (W .puts .put) ∙ drop-at (take (v .from) work) (nodes result ++ drop 4096 work) (v .from) l
+                ∙ ap (λ (m : List ℕ). nodes result ++ m) (ap (λ (n : ℕ). drop n work) (sym long) ∙ drop-length work) ∙ append-nil (nodes result);
+            within = let n = puts-length (nodes result) work work₂ 4096 (v .from) (omega (arith, long)) (W .puts) in omega (arith, long);
             deep = W .depth-is;
           }
 

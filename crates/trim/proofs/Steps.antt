@@ -17,15 +17,14 @@ use Rattle.table.specs.Writing.{nodes}
 use Rattle.trim.specs.declared.descent.Around.{Around}
 use Rattle.trim.specs.declared.work.Part.{Part}
 use Rattle.trim.specs.Levels.{trimmedIn, wrapIf}
-use Rattle.reach.specs.Analysis.{analysedOf}
-use Rattle.reach.specs.Notes.{noteOf, secondOf, endsOf}
+use Rattle.reach.specs.Notes.{Noted, noteOf, secondOf, endsOf}
 use Rattle.reach.proofs.Nodes.{Node, placed-node, next-forward}
-use Rattle.reach.proofs.Notes.{second-note, ends-note}
-use Rattle.trim.specs.Notes.{trimNote, keptOf, NotesAre}
+use Rattle.reach.proofs.Notes.{noted-node, second-note, ends-note}
+use Rattle.trim.specs.Notes.{trimNote, TrimNote, keptOf}
 use Rattle.trim.specs.Parts.{part, Made, nothingAt, Leaf, Wraps, Joins, LeafPut, Wrapped, Joined, Branch, branchIf, presentIf, ElseClosed, PresentClosed, Caught, Ready, Done}
 use Rattle.trim.proofs.Parts.{puts-length, made-nothing}
 use Rattle.trim.proofs.Trimming.{Low, trimmed-places, trimmed-nothing}
-use Rattle.trim.proofs.Notes.{try-kept, notes-node}
+use Rattle.trim.proofs.Notes.{try-kept}
 
 -- ---- a node and its children
 
@@ -40,20 +39,20 @@ module _ (R : ℕ) (xs notes : List ℕ) (at left : ℕ) where
   pub record One (k : ℕ) (f : Statement → Statement) (inside : ℕ) : Type 0 where
     pub is : statementAt left xs at ≡ placed (f (first .statement)) (first .next)
     pub valid : Valid inside (first .statement)
-    pub noted : NotesAre (trimNote R) xs notes (left - 1) (at + 1)
+    pub noted : Noted (TrimNote R notes) xs (left - 1) (at + 1)
     pub note-is : getD notes at 0 ≡ trimNote R k first
 
   pub record Two (k : ℕ) (f : Statement → Statement → Statement) (inside : ℕ) : Type 0 where
     pub is : statementAt left xs at ≡ placed (f (first .statement) (second .statement)) (second .next)
     pub valid : Valid inside (first .statement)
     pub valid-second : Valid inside (second .statement)
-    pub noted : NotesAre (trimNote R) xs notes (left - 1) (at + 1)
-    pub noted-second : NotesAre (trimNote R) xs notes (left - 1) (first .next)
+    pub noted : Noted (TrimNote R notes) xs (left - 1) (at + 1)
+    pub noted-second : Noted (TrimNote R notes) xs (left - 1) (first .next)
     pub note-is : getD notes at 0 ≡ trimNote R k first
 
   -- what the note says
   module _ (k : ℕ) (plain : eqb k 10 ≡ false) (h : getD notes at 0 ≡ trimNote R k first) where
-    note-plain : getD notes at 0 ≡ noteOf (analysedOf R first)
+    note-plain : getD notes at 0 ≡ noteOf R first
     unfolding trimNote
     note-plain = h ∙ rw plain
 
@@ -61,50 +60,49 @@ module _ (R : ℕ) (xs notes : List ℕ) (at left : ℕ) where
     note-ends b = ap (λ (n : ℕ). endsOf n b) note-plain ∙ ends-note R b first
 
     pub note-place : secondOf (getD notes at 0) ≡ first .next
-    unfolding analysedOf
-    note-place = ap secondOf note-plain ∙ second-note (analysedOf R first)
+    note-place = ap secondOf note-plain ∙ second-note R first
 
   pub note-kept : {inside : ℕ} → One 10 try inside → (b : Bool) → keptOf (getD notes at 0) b ≡ endsAt 0 (trim R b (first .statement))
   unfolding trimNote
   note-kept o b = ap (λ (n : ℕ). keptOf n b) (o .note-is) ∙ try-kept R first b
 
-  module _ (tries : ℕ) (v : Valid tries (statementAt left xs at .statement)) (h : NotesAre (trimNote R) xs notes left at) where
+  module _ (tries : ℕ) (v : Valid tries (statementAt left xs at .statement)) (h : Noted (TrimNote R notes) xs left at) where
     one-node : (k : ℕ) (f : Statement → Statement) (inside : ℕ)
         → statementAt left xs at ≡ placed (f (first .statement)) (first .next) → (Valid tries (f (first .statement)) → Valid inside (first .statement))
-        → (getD notes at 0 ≡ trimNote R k first) × NotesAre (trimNote R) xs notes (left - 1) (at + 1) → One k f inside
+        → (getD notes at 0 ≡ trimNote R k first) × Noted (TrimNote R notes) xs (left - 1) (at + 1) → One k f inside
     one-node k f inside e g ns = record { is = e; valid = g (subst (λ (p : Placed). Valid tries (p .statement)) e v); noted = ns .1; note-is = ns .0 }
 
     two-node : (k : ℕ) (f : Statement → Statement → Statement)
         → statementAt left xs at ≡ placed (f (first .statement) (second .statement)) (second .next)
         → (Valid tries (f (first .statement) (second .statement)) → Valid tries (first .statement) × Valid tries (second .statement))
-        → (getD notes at 0 ≡ trimNote R k first) × NotesAre (trimNote R) xs notes (left - 1) (at + 1) × NotesAre (trimNote R) xs notes (left - 1) (first .next) → Two k f tries
+        → (getD notes at 0 ≡ trimNote R k first) × Noted (TrimNote R notes) xs (left - 1) (at + 1) × Noted (TrimNote R notes) xs (left - 1) (first .next) → Two k f tries
     two-node k f e g ns =
         let vs = g (subst (λ (p : Placed). Valid tries (p .statement)) e v) in
         record { is = e; valid = vs .0; valid-second = vs .1; noted = ns .1; noted-second = ns .2; note-is = ns .0 }
 
     pub one-signal : Node left xs at 5 → One 5 (signal (operandOf (getD xs at 0))) tries
     unfolding placeKind kindOf kinds rowOf Valid
-    one-signal n = one-node 5 (signal (operandOf (getD xs at 0))) tries (placed-node n) (λ w. w .1) (notes-node (trimNote R) notes n h)
+    one-signal n = one-node 5 (signal (operandOf (getD xs at 0))) tries (placed-node n) (λ w. w .1) (noted-node (TrimNote R notes) n h)
 
     pub one-loop : Node left xs at 9 → One 9 loop tries
     unfolding placeKind kindOf kinds rowOf Valid
-    one-loop n = one-node 9 loop tries (placed-node n) (λ w. w) (notes-node (trimNote R) notes n h)
+    one-loop n = one-node 9 loop tries (placed-node n) (λ w. w) (noted-node (TrimNote R notes) n h)
 
     pub one-try : Node left xs at 10 → One 10 try (suc tries)
     unfolding placeKind kindOf kinds rowOf Valid
-    one-try n = one-node 10 try (suc tries) (placed-node n) (λ w. w) (notes-node (trimNote R) notes n h)
+    one-try n = one-node 10 try (suc tries) (placed-node n) (λ w. w) (noted-node (TrimNote R notes) n h)
 
     pub two-present : Node left xs at 6 → Two 6 (present (operandOf (getD xs at 0))) tries
     unfolding placeKind kindOf kinds rowOf Valid
-    two-present n = two-node 6 (present (operandOf (getD xs at 0))) (placed-node n) (λ w. (w .1, w .2)) (notes-node (trimNote R) notes n h)
+    two-present n = two-node 6 (present (operandOf (getD xs at 0))) (placed-node n) (λ w. (w .1, w .2)) (noted-node (TrimNote R notes) n h)
 
     pub two-sequence : Node left xs at 7 → Two 7 sequence tries
     unfolding placeKind kindOf kinds rowOf Valid
-    two-sequence n = two-node 7 sequence (placed-node n) (λ w. (w .0, w .1)) (notes-node (trimNote R) notes n h)
+    two-sequence n = two-node 7 sequence (placed-node n) (λ w. (w .0, w .1)) (noted-node (TrimNote R notes) n h)
 
     pub two-parallel : Node left xs at 8 → Two 8 parallel tries
     unfolding placeKind kindOf kinds rowOf Valid
-    two-parallel n = two-node 8 parallel (placed-node n) (λ w. (w .0, w .1)) (notes-node (trimNote R) notes n h)
+    two-parallel n = two-node 8 parallel (placed-node n) (λ w. (w .0, w .1)) (noted-node (TrimNote R notes) n h)
 
 -- ---- what the steps make
 
@@ -120,6 +118,7 @@ module _ (R at left : ℕ) (a : Around) (places work : List ℕ) (to : ℕ) wher
         room = omega arith;
         shallow = omega arith;
         same = λ i l. refl;
+        long = refl;
       }
 
   pub trimmed-leaf : (t u : Statement) (x named : ℕ) (keep : Bool) (r : Part) (work′ : List ℕ) → left ≢ 0
@@ -133,14 +132,15 @@ module _ (R at left : ℕ) (a : Around) (places work : List ℕ) (to : ℕ) wher
         room = omega arith;
         shallow = omega arith;
         same = λ i l. refl;
+        long = refl;
       }
 
   module _ (some : left ≢ 0) (w : to ≤ length work) where
     pub trimmed-one : (g : Statement → Statement) (x : ℕ) (z : Bool) (s : Statement) (p : Placed) (a′ : Around) (places₁ places₂ work₁ work₂ : List ℕ) (v r : Part)
-        → trimmedIn R places a s ≡ wrapIf g z (trimmedIn R places₁ a′ (p .statement)) → Same (a .tries) places places₂
+        → trimmedIn R places a s ≡ wrapIf g z (trimmedIn R places₁ a′ (p .statement)) → Same (a .tries) places places₂ → length places₁ ≡ length places
         → Wraps g x → Done R p (at + 1) (left - 1) a′ places₁ work to v places₂ work₁ → Wrapped x z work₁ to v r work₂
         → Done R (placed s (p .next)) at left a places work to r places₂ work₂
-    trimmed-one g x z s p a′ places₁ places₂ work₁ work₂ v r is same G P W =
+    trimmed-one g x z s p a′ places₁ places₂ work₁ work₂ v r is same long G P W =
         let room : to + 4 * (at + 1) ≤ v .from + 4 * p .next = P .room in
         let near : v .from ≤ r .from + 2 = W .near in
         let deep : v .depth ≤ 3 * (left - 1) = P .shallow in
@@ -150,6 +150,7 @@ module _ (R at left : ℕ) (a : Around) (places work : List ℕ) (to : ℕ) wher
           room = omega arith;
           shallow = omega arith;
           same = same;
+          long = P .long ∙ long;
         }
 
     pub trimmed-two : (g : Statement → Statement → Statement) (x : ℕ) (s : Statement) (p q : Placed) (a′ : Around) (places₁ places₂ work₁ work₂ work₃ : List ℕ) (u v r : Part)
@@ -171,6 +172,7 @@ module _ (R at left : ℕ) (a : Around) (places work : List ℕ) (to : ℕ) wher
           room = omega arith;
           shallow = omega arith;
           same = λ i l. P .same i l ∙ same i l;
+          long = P .long ∙ Q .long;
         }
 
     pub trimmed-branches : (z : Bool) (S : ℕ) (p q : Placed) (a′ : Around) (places₁ places₂ work₁ work₂ work₃ work₄ : List ℕ) (u v e r : Part)
@@ -198,6 +200,7 @@ module _ (R at left : ℕ) (a : Around) (places work : List ℕ) (to : ℕ) wher
           room = omega arith;
           shallow = omega arith;
           same = λ i l. P .same i l ∙ same i l;
+          long = P .long ∙ Q .long;
         }
       where
         four : (b : Bool) → cond b 1 3 + cond b 2 1 ≤ 4
@@ -218,9 +221,10 @@ module _ {R : ℕ} {xs notes : List ℕ} {at left : ℕ} {a : Around} {places wo
         all = N .all;
         room = let r = N .room in omega arith;
         to-in = N .to-in;
+        work-is = N .work-is;
         tries-in = let r = N .tries-in in omega arith;
         kept-in = let r = N .kept-in in omega arith;
-        wide = let r = N .wide in omega arith;
+        wide = wide ∙ N .wide;
         low = low;
         caught = caught;
       }
@@ -244,6 +248,7 @@ module _ {R : ℕ} {xs notes : List ℕ} {at left : ℕ} {a : Around} {places wo
           all = N .all;
           room = let r = N .room in omega (arith, forward, next-is);
           to-in = N .to-in;
+          work-is = N .work-is;
           tries-in = let r = N .tries-in in omega arith;
           kept-in = let r = N .kept-in in omega arith;
           wide = N .wide;
@@ -252,18 +257,19 @@ module _ {R : ℕ} {xs notes : List ℕ} {at left : ℕ} {a : Around} {places wo
         })
 
     pub first-ready : Caught R places a (statementAt (left - 1) xs (at + 1) .statement) → {a′ : Around} {v : Part} {places₁ work₁ : List ℕ} → Done R (statementAt (left - 1) xs mid) mid (left - 1) a′ places work to v places₁ work₁
-        → a′ .tries ≡ a .tries → (to′ : ℕ) (work′ : List ℕ) → v .from ≤ to′ + 4 → to′ ≤ length work′ → length places₁ ≡ length places
+        → a′ .tries ≡ a .tries → (to′ : ℕ) (work′ : List ℕ) → v .from ≤ to′ + 4 → to′ ≤ length work′ → length work′ ≡ length work
         → Ready R xs notes (at + 1) (left - 1) a places₁ work′ to′
-    first-ready caught Q t to′ work′ h g wide =
+    first-ready caught Q t to′ work′ h g l =
         record {
           valid = o .valid;
           noted = o .noted;
           all = N .all;
           room = let r = N .room in let s = Q .room in omega (arith, next-is);
           to-in = g;
+          work-is = l ∙ N .work-is;
           tries-in = let r = N .tries-in in omega arith;
           kept-in = let r = N .kept-in in omega arith;
-          wide = let r = N .wide in omega arith;
+          wide = Q .long ∙ N .wide;
           low = λ i h. let r = N .low i h in let e = Q .same i (omega arith) in omega arith;
           caught = λ d h x. let r = caught d h x in let e = Q .same (a .tries - d) (omega arith) in omega arith;
         }
@@ -279,7 +285,7 @@ module _ {R : ℕ} {xs notes : List ℕ} {at left : ℕ} {a : Around} {places wo
 
   pub one-room : {k : ℕ} {f : Statement → Statement} {inside : ℕ} → One R xs notes at left k f inside → {a′ : Around} {places₁ places₂ work₁ : List ℕ} {v : Part}
       → Done R (statementAt (left - 1) xs (at + 1)) (at + 1) (left - 1) a′ places₁ work to v places₂ work₁
-      → (2 ≤ v .from) × (v .from ≤ length work₁) × (v .depth ≤ 200)
+      → (2 ≤ v .from) × (v .from ≤ 4096) × (v .depth ≤ 200)
   one-room o P =
       let next : statementAt left xs at .next ≡ statementAt (left - 1) xs (at + 1) .next = ap (λ (p : Placed). p .next) (o .is) in
       let r = N .room in
@@ -288,7 +294,7 @@ module _ {R : ℕ} {xs notes : List ℕ} {at left : ℕ} {a : Around} {places wo
       let t = N .tries-in in
       let d = P .shallow in
       let e = ends-in refl (omega arith) (P .made) in
-      (omega arith, omega (arith, e), omega arith)
+      (omega arith, omega (arith, e, N .work-is), omega arith)
 
   module _ {k : ℕ} {f : Statement → Statement → Statement} (o : Two R xs notes at left k f (a .tries)) {a′ : Around} {places₁ work₁ : List ℕ} {v : Part}
       (Q : Done R (statementAt (left - 1) xs (mid o)) (mid o) (left - 1) a′ places work to v places₁ work₁) where
@@ -298,25 +304,27 @@ module _ {R : ℕ} {xs notes : List ℕ} {at left : ℕ} {a : Around} {places wo
     second-ends : (v .from ≤ to) × (length work₁ ≡ length work)
     second-ends = ends-in refl (omega arith) (Q .made)
 
-    pub else-room : (3 ≤ v .from) × (v .from ≤ length work₁) × (v .depth ≤ 200)
+    pub else-room : (3 ≤ v .from) × (v .from ≤ 4096) × (v .depth ≤ 200)
     else-room =
         let i = N .to-in in
         let t = N .tries-in in
         let d = Q .shallow in
-        (omega (arith, second-room, forward o), omega (arith, second-ends), omega arith)
+        (omega (arith, second-room, forward o), omega (arith, second-ends, N .work-is), omega arith)
 
-    pub join-ready : Caught R places a (statementAt (left - 1) xs (at + 1) .statement) → length places₁ ≡ length places → a′ .tries ≡ a .tries → Ready R xs notes (at + 1) (left - 1) a places₁ work₁ (v .from)
-    join-ready caught wide t = first-ready o caught Q t (v .from) work₁ (omega arith) (else-room .1) wide
+    pub join-ready : Caught R places a (statementAt (left - 1) xs (at + 1) .statement) → a′ .tries ≡ a .tries → Ready R xs notes (at + 1) (left - 1) a places₁ work₁ (v .from)
+    join-ready caught t =
+        let i = N .to-in in
+        first-ready o caught Q t (v .from) work₁ (omega arith) (omega (arith, second-ends)) (second-ends .1)
 
     pub join-room : {places₂ work₂ : List ℕ} {u : Part} → Done R (statementAt (left - 1) xs (at + 1)) (at + 1) (left - 1) a places₁ work₁ (v .from) u places₂ work₂
-        → (1 ≤ u .from) × (u .from ≤ length work₂) × (u .depth ≤ 200) × (v .depth ≤ 200)
+        → (1 ≤ u .from) × (u .from ≤ 4096) × (u .depth ≤ 200) × (v .depth ≤ 200)
     join-room P =
         let i = N .to-in in
         let t = N .tries-in in
         let d = P .shallow in
         let s = P .room in
         let e = ends-in (second-ends .1) (second-ends .0) (P .made) in
-        (omega (arith, second-room), omega (arith, e, second-ends), omega arith, else-room .2)
+        (omega (arith, second-room), omega (arith, e, second-ends, N .work-is), omega arith, else-room .2)
 
     module _ {z : Bool} {work₂ : List ℕ} {e : Part} (E : ElseClosed (a .started) z work₁ to v e work₂) where
       branch-ends : (b : Bool) (t : Statement) → Branch b t work to e work₂ → (e .from ≤ to) × (length work₂ ≡ length work)
@@ -332,18 +340,18 @@ module _ {R : ℕ} {xs notes : List ℕ} {at left : ℕ} {a : Around} {places wo
       three true = omega arith
       three false = omega arith
 
-      pub branch-ready : Caught R places a (statementAt (left - 1) xs (at + 1) .statement) → length places₁ ≡ length places → a′ .tries ≡ a .tries → Ready R xs notes (at + 1) (left - 1) a places₁ work₂ (e .from)
-      branch-ready caught wide t =
+      pub branch-ready : Caught R places a (statementAt (left - 1) xs (at + 1) .statement) → a′ .tries ≡ a .tries → Ready R xs notes (at + 1) (left - 1) a places₁ work₂ (e .from)
+      branch-ready caught t =
           let i = N .to-in in
           let n = E .near in
-          first-ready o caught Q t (e .from) work₂ (omega (arith, three (a .started))) (omega (arith, else-ends)) wide
+          first-ready o caught Q t (e .from) work₂ (omega (arith, three (a .started))) (omega (arith, else-ends)) (else-ends .1)
 
       four : (b : Bool) → cond b 1 3 + cond b 2 1 ≤ 4
       four true = omega arith
       four false = omega arith
 
       pub present-room : {places₂ work₃ : List ℕ} {u : Part} → Done R (statementAt (left - 1) xs (at + 1)) (at + 1) (left - 1) a places₁ work₂ (e .from) u places₂ work₃
-          → (S : ℕ) → S ≤ 31 → (cond (a .started) 2 1 ≤ u .from) × (u .from ≤ length work₃) × (u .depth ≤ 200) × (e .depth ≤ 200) × (S ≤ 31)
+          → (S : ℕ) → S ≤ 31 → (cond (a .started) 2 1 ≤ u .from) × (u .from ≤ 4096) × (u .depth ≤ 200) × (e .depth ≤ 200) × (S ≤ 31)
       present-room P S h =
           let i = N .to-in in
           let t = N .tries-in in
@@ -353,4 +361,4 @@ module _ {R : ℕ} {xs notes : List ℕ} {at left : ℕ} {a : Around} {places wo
           let m = E .shallow in
           let q = Q .shallow in
           let x = ends-in (else-ends .1) (else-ends .0) (P .made) in
-          (omega (arith, second-room, four (a .started)), omega (arith, x, else-ends), omega arith, omega arith, h)
+          (omega (arith, second-room, four (a .started)), omega (arith, x, else-ends, N .work-is), omega arith, omega arith, h)

@@ -1,11 +1,11 @@
 -- A step of a walk over the nodes: the node that is there, by the tests that the walk makes.
 use mathlib.Core.Path.{_≡_, sym, ap, _∙_}
-use mathlib.Core.Logic.{_≢_}
-use mathlib.Core.Bool.{false}
+use mathlib.Core.Logic.{_≢_, _⊎_, inl, inr}
+use mathlib.Core.Bool.{true, false}
 use mathlib.Core.List.{List}
 use Prim.Native.Nat.{ℕ, suc, _+_, _-_, _≤_, zero-le}
 use native.Mathlib.Omega.{arith}
-use borrow.Author.Tests.{leb-false}
+use borrow.Author.Tests.{leb-true, leb-false}
 use lib.Dec.{leb}
 use lib.ListN.{length, getD}
 use Rattle.table.specs.Kinds.{kindOf, rowOf}
@@ -13,8 +13,13 @@ use Rattle.table.specs.Reading.{kindOfNode, operandOf}
 use Rattle.table.specs.Places.{Placed, statementAt}
 use Rattle.reach.proofs.Nodes.{Node, placed-node, place-next, follow-forward, next-forward}
 
-pub there : {left : ℕ} {nodes : List ℕ} {at k kind : ℕ} → left ≢ 0 → leb (length nodes) at ≡ false → kind ≡ kindOfNode (getD nodes at 0) → kind ≡ k → Node left nodes at k
-there {left} {nodes} {at} h i e k = record { some = h; inside = leb-false (length nodes) at i; kind = sym e ∙ k }
+pub there : {left : ℕ} {nodes : List ℕ} {at k kind : ℕ} → left ≢ 0 → length nodes ≡ 1024 → leb 1024 at ≡ false → kind ≡ kindOfNode (getD nodes at 0) → kind ≡ k → Node left nodes at k
+there {left} {nodes} {at} h l i e k = record { some = h; inside = omega (arith, l, leb-false 1024 at i); kind = sym e ∙ k }
+
+-- and past the last node
+pub past : (left : ℕ) (nodes : List ℕ) (at : ℕ) → length nodes ≡ 1024 → (left ≡ 0) ⊎ (leb 1024 at ≡ true) → (left ≡ 0) ⊎ (length nodes ≤ at)
+past left nodes at l (inl e) = inl e
+past left nodes at l (inr h) = inr (omega (arith, l, leb-true 1024 at h))
 
 -- a node that is there is passed
 pub next-after : {left : ℕ} {nodes : List ℕ} {at k : ℕ} → Node left nodes at k → at + 1 ≤ statementAt left nodes at .next

@@ -1,16 +1,18 @@
 -- Which try statements are kept: the exits that are left in a trimmed statement, and the notes that say it.
 use Prim.Native.Nat.{ℕ, _+_, _*_, _/_, _%_, _^_, _≤_, _<_}
 use mathlib.Core.Path.{_≡_}
-use mathlib.Core.Bool.{Bool, true, false, cond}
+use mathlib.Core.Bool.{Bool, true, false, cond, not}
 use mathlib.Core.List.{List}
-use lib.Bits.{bitOr}
-use lib.ListN.{getD}
+use lib.Bits.{bitAnd, bitOr}
+use lib.Dec.{eqb}
+use lib.ListN.{length, getD}
 use Rattle.sets.specs.Set.{has, only}
 use Rattle.esterel.specs.Trimming.{endsAt, trim}
 use Rattle.table.specs.Places.{Placed, statementAt}
-use Rattle.reach.specs.Notes.{endsOf}
+use Rattle.reach.specs.CodeSets.{flagOf}
+use Rattle.reach.specs.Notes.{Noted, Opens, endsOf}
 use Rattle.trim.specs.declared.marks.Exits.{Exits}
-use Rattle.trim.specs.Notes.{reachNote, trimNote, NotesAre}
+use Rattle.trim.specs.Notes.{TrimNote}
 
 -- ---- the exits that are left in a trimmed statement
 
@@ -47,13 +49,21 @@ triedNote note p = note / 4 * 4 + p .resumed % 2 * 2 + p .started % 2
 
 -- ---- the pass
 
--- after reach's notes over R: the exits left in the statement at a place, and its notes for trimming; other notes are as
--- they were
+-- a note as reach leaves it, with whether the first child can end where it is resumed: for R, by the labels E from which alone
+-- it can end
+abbrev pub withResumed : ℕ → Bool → ℕ
+withResumed note resumed = note / 4 * 4 + flagOf resumed * 2 + note % 2
+
+abbrev pub completed : ℕ → ℕ → ℕ → ℕ
+completed note E R = withResumed note (not (eqb (bitAnd E R) 0))
+
+-- after reach's notes: the exits left in the statement at a place, and its notes for trimming; other notes are as they were
 pub record Marked (R : ℕ) (nodes : List ℕ) (left at : ℕ) (notes : List ℕ) (e : Exits) (notes′ : List ℕ) : Type 0 where
   pub leaving : ExitsAre R (statementAt left nodes at) e
-  pub noted : NotesAre (trimNote R) nodes notes′ left at
+  pub noted : Noted (TrimNote R notes′) nodes left at
   pub low : (i : ℕ) → i < at → getD notes′ i 0 ≡ getD notes i 0
   pub high : (i : ℕ) → statementAt left nodes at .next ≤ i → getD notes′ i 0 ≡ getD notes i 0
 
-unfoldable pub Marks : List ℕ → ℕ → ℕ → List ℕ → Exits → List ℕ → Type 0
-Marks nodes left at notes e notes′ = (R : ℕ) → NotesAre (reachNote R) nodes notes left at → Marked R nodes left at notes e notes′
+pub record Marks (R : ℕ) (nodes endings : List ℕ) (left at : ℕ) (notes : List ℕ) (e : Exits) (notes′ : List ℕ) : Type 0 where
+  pub size : length notes′ ≡ length notes
+  pub marked : Noted (Opens notes endings) nodes left at → Marked R nodes left at notes e notes′

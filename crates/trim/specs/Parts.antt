@@ -13,7 +13,8 @@ use Rattle.table.specs.Places.{Placed, statementAt}
 use Rattle.trim.specs.declared.descent.Around.{Around}
 use Rattle.trim.specs.declared.work.Part.{Part}
 use Rattle.trim.specs.Levels.{trimmedIn, wrapIf, guardedIf}
-use Rattle.trim.specs.Notes.{NotesAre, trimNote}
+use Rattle.reach.specs.Notes.{Noted}
+use Rattle.trim.specs.Notes.{TrimNote}
 
 -- ---- what stands in the work area
 
@@ -68,7 +69,7 @@ pub record Joins (f : Statement → Statement → Statement) (x own : ℕ) : Typ
 pub record ExitReady (places : List ℕ) (a : Around) (level : ℕ) : Type 0 where
   pub least : 1 ≤ level
   pub most : level ≤ a .tries
-  pub wide : a .tries < length places
+  pub wide : a .tries < 64
   pub low : (i : ℕ) → i ≤ a .tries → getD places i 0 ≤ a .kept
 
 -- ---- the steps; `near` and `shallow` bound the room and the depth that a step takes
@@ -130,13 +131,14 @@ Caught R places a p = (d : ℕ) → d < a .tries → endsAt d (trim R (a .starte
 -- what trimming the statement at a place asks: 4 nodes of room for each node
 pub record Ready (R : ℕ) (xs notes : List ℕ) (at left : ℕ) (a : Around) (places work : List ℕ) (to : ℕ) : Type 0 where
   pub valid : Valid (a .tries) (statementAt left xs at .statement)
-  pub noted : NotesAre (trimNote R) xs notes left at
-  pub all : length xs ≤ length notes
+  pub noted : Noted (TrimNote R notes) xs left at
+  pub all : length xs ≡ 1024
   pub room : 4 * statementAt left xs at .next ≤ to + 4 * at
   pub to-in : to ≤ length work
+  pub work-is : length work ≡ 4096
   pub tries-in : a .tries + left ≤ 60
   pub kept-in : a .kept + left ≤ 60
-  pub wide : 64 ≤ length places
+  pub wide : length places ≡ 64
   pub low : (i : ℕ) → i ≤ a .tries → getD places i 0 ≤ a .kept
   pub caught : Caught R places a (statementAt left xs at .statement)
 
@@ -146,3 +148,4 @@ pub record Done (R : ℕ) (p : Placed) (at left : ℕ) (a : Around) (places work
   pub room : to + 4 * at ≤ r .from + 4 * p .next
   pub shallow : r .depth ≤ 3 * left
   pub same : (i : ℕ) → i ≤ a .tries → getD places′ i 0 ≡ getD places i 0
+  pub long : length places′ ≡ length places

@@ -14,17 +14,18 @@ use Rattle.trim.specs.declared.work.Part.{Part}
 use Rattle.trim.specs.declared.Trimmed.{Trimmed}
 use Rattle.trim.specs.Answers.{answerFor, bufferFor}
 
--- nodes that hold one valid statement and nothing after it
+-- a buffer of nodes that begins with those of a valid statement
 pub record Tree (nodes : List ℕ) : Type 0 where
-  pub few : length nodes ≤ 1024
-  pub whole : statementAt deepest nodes 0 .next ≡ length nodes
+  pub all : length nodes ≡ 1024
+  pub few : statementAt deepest nodes 0 .next ≤ 1024
   pub valid : Valid 0 (statementOf nodes)
   pub shallow : depth (statementOf nodes) ≤ deepest
   pub small : size (statementOf nodes) ≤ 1024
 
 -- room for trimming them
-pub record Lent (notes places work : List ℕ) : Type 0 where
+pub record Lent (notes endings places work : List ℕ) : Type 0 where
   pub notes-are : length notes ≡ 1024
+  pub endings-are : length endings ≡ 1024
   pub places-are : length places ≡ 64
   pub outermost : getD places 0 0 ≡ 0
   pub work-is : length work ≡ 4096

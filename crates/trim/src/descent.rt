@@ -8,7 +8,6 @@ use reach::pass;
 ghost use mathlib.Core.Path.{_≡_};
 ghost use mathlib.Core.Bool.{_||_};
 ghost use Prim.Native.Nat.{_+_, _≤_, _<_};
-ghost use lib.ListN.{length};
 ghost use Rattle.sets.specs.Set.{has};
 ghost use Rattle.table.specs.Places.{statementAt};
 ghost use Rattle.trim.specs.Levels.{levelOut, startedIf, inElse, inTry, placesIn};
@@ -52,8 +51,8 @@ fn in_else(around: Around, guarded: bool) -> Around
 }
 
 // Around the body of a try, whose place is noted.
-fn in_try(places: &mut [u8], around: Around, kept: bool) -> Around
-    requires { ⌜ (around .tries + 1 < length (now places)) × (around .kept ≤ 60) ⌝ }
+fn in_try(places: &mut [u8; 64], around: Around, kept: bool) -> Around
+    requires { ⌜ (around .tries + 1 < 64) × (around .kept ≤ 60) ⌝ }
     ensures { λ r. ⌜ (r ≡ inTry kept around) × (now (places .exit) ≡ placesIn around (now (places .entry))) ⌝ }
 {
     let tries = around.tries + 1;
@@ -73,7 +72,7 @@ fn in_try(places: &mut [u8], around: Around, kept: bool) -> Around
 }
 
 // The level in the trimmed table of an exit of the source.
-fn level_out(places: &[u8], around: Around, level: Level) -> Level
+fn level_out(places: &[u8; 64], around: Around, level: Level) -> Level
     requires { ⌜ ExitReady (now places) around (level .0) ⌝ }
     ensures { λ r. ⌜ r .0 ≡ levelOut (now (places .entry)) around (level .0) ⌝ }
 {
@@ -101,20 +100,20 @@ fn keeps_try(note: u16, b: bool) -> bool
 // Writes the trimmed statement at a place into the work area, so that it ends at `to`. The second child is written first,
 // so nothing is ever moved.
 pub fn trim_at(
-    nodes: &[u16],
-    notes: &[u16],
+    nodes: &[u16; 1024],
+    notes: &[u16; 1024],
     r: u64,
     at: usize,
     left: usize,
     around: Around,
-    places: &mut [u8],
-    work: &mut [u16],
+    places: &mut [u8; 64],
+    work: &mut [u16; 4096],
     to: usize,
 ) -> Part
     requires { ⌜ Ready r (now nodes) (now notes) at left around (now places) (now work) to ⌝ }
     ensures { λ part. ⌜ Done r (statementAt left (now (nodes .entry)) at) at left around (now (places .entry)) (now (work .entry)) to part (now (places .exit)) (now (work .exit)) ⌝ }
 {
-    if left == 0 || nodes.len() <= at {
+    if left == 0 || 1024 <= at {
         return work::nothing(to);
     }
     let node = nodes[at];

@@ -1,9 +1,10 @@
 // Trim: the table of the trimmed statement.
 //
-// The cost: the nodes are cut out of the bytes and checked once; reach's rounds take a pass each; then one pass marks the try
-// statements that are kept, one writes the trimmed nodes, and one packs them. A pass looks at each node once and does a
-// bounded number of steps there, whatever the depth. Trimming works in an area of its own, four places for each node, and
-// touches the caller's buffer only when the table is known to fit.
+// The cost: the nodes are cut out of the bytes and checked once; one pass, reach's, makes the summary that its rounds go by and
+// notes at the nodes what it found; one completes the notes and marks the try statements that are kept; one writes the trimmed
+// nodes, and one packs them. A pass looks at each node once and does a bounded number of steps there, whatever the depth.
+// Trimming works in an area of its own, four places for each node, and touches the caller's buffer only when the table is
+// known to fit.
 mod descent;
 mod marks;
 mod work;
@@ -31,19 +32,25 @@ pub enum Trimmed {
 }
 
 // Trims the statement that the nodes hold, to the end of the work area.
-fn trim_nodes(nodes: &[u16], notes: &mut [u16; 1024], places: &mut [u8], work: &mut [u16]) -> Part
+fn trim_nodes(
+    nodes: &[u16; 1024],
+    notes: &mut [u16; 1024],
+    endings: &mut [u64; 1024],
+    places: &mut [u8; 64],
+    work: &mut [u16; 4096],
+) -> Part
     requires { ⌜ Tree (now nodes) ⌝ }
-    requires { ⌜ Lent (now notes) (now places) (now work) ⌝ }
+    requires { ⌜ Lent (now notes) (now endings) (now places) (now work) ⌝ }
     ensures { λ r. ⌜ Ends (trimmed (statementOf (now (nodes .entry)))) r (now (work .exit)) ⌝ }
 {
-    let found = reach::settle(nodes, notes);
-    marks::mark_at(nodes, 0, 60, notes);
+    let found = reach::settle(nodes, notes, endings);
+    marks::mark_at(nodes, 0, 60, notes, endings, found.set);
     let around = Around {
         started: true,
         tries: 0,
         kept: 0,
     };
-    let to = work.len();
+    let to: usize = 4096;
     let part = descent::trim_at(nodes, notes, found.set, 0, 60, around, places, work, to);
     work::fill(work, part, to)
 }
@@ -72,25 +79,24 @@ fn finish(work: &[u16], part: Part, out: &mut [u8]) -> Trimmed
     })
 }
 
-// Trim, with room lent for the nodes, their notes, the places of try statements and the trimmed nodes.
+// Trim, with room lent for the nodes, what is noted of them, the places of try statements and the trimmed nodes.
 fn trim_with(
     table: &[u8],
     out: &mut [u8],
     nodes: &mut [u16; 1024],
     notes: &mut [u16; 1024],
+    endings: &mut [u64; 1024],
     places: &mut [u8; 64],
     work: &mut [u16; 4096],
 ) -> Trimmed
-    requires { ⌜ Lent (now notes) (now places) (now work) ⌝ }
+    requires { ⌜ (length (now nodes) ≡ 1024) × Lent (now notes) (now endings) (now places) (now work) ⌝ }
     ensures { λ r. ⌜ (r ≡ trimOf (now (table .entry)) (length (now (out .entry)))) × (now (out .exit) ≡ bufferOf (now (table .entry)) (now (out .entry))) ⌝ }
 {
     let checked = table::load(table, nodes);
-    let Checked::Accepted(n) = checked else {
+    let Checked::Accepted(_) = checked else {
         return Trimmed::Refused(table::refusal(checked));
     };
-    let count = n as usize;
-    let loaded = &nodes[..];
-    let part = trim_nodes(&loaded[..count], notes, places, work);
+    let part = trim_nodes(nodes, notes, endings, places, work);
     finish(work, part, out)
 }
 
@@ -100,7 +106,16 @@ pub fn trim(table: &[u8], out: &mut [u8]) -> Trimmed
 {
     let mut nodes = [0u16; 1024];
     let mut notes = [0u16; 1024];
+    let mut endings = [0u64; 1024];
     let mut places = [0u8; 64];
     let mut work = [0u16; 4096];
-    trim_with(table, out, &mut nodes, &mut notes, &mut places, &mut work)
+    trim_with(
+        table,
+        out,
+        &mut nodes,
+        &mut notes,
+        &mut endings,
+        &mut places,
+        &mut work,
+    )
 }

@@ -26,8 +26,8 @@ pub fn nothing(to: usize) -> Part
 }
 
 // One node in front of what stands from a place on.
-fn put(work: &mut [u16], from: usize, kind: u16, operand: u8) -> usize
-    requires { ⌜ (1 ≤ from) × (from ≤ length (now work)) × (kind < 16) ⌝ }
+fn put(work: &mut [u16; 4096], from: usize, kind: u16, operand: u8) -> usize
+    requires { ⌜ (1 ≤ from) × (from ≤ 4096) × (kind < 16) ⌝ }
     ensures { λ r. ⌜ (r ≡ from - 1) × (now (work .exit) ≡ set (now (work .entry)) (from - 1) (nodeOf kind operand)) ⌝ }
 {
     work[from - 1] = table::node_of(kind, operand);
@@ -41,8 +41,15 @@ fn deeper(a: u8, b: u8) -> u8
 }
 
 // A statement of one node, or nothing.
-pub fn put_if(work: &mut [u16], to: usize, keep: bool, kind: u16, operand: u8, named: u64) -> Part
-    requires { ⌜ (1 ≤ to) × (to ≤ length (now work)) × (kind < 16) ⌝ }
+pub fn put_if(
+    work: &mut [u16; 4096],
+    to: usize,
+    keep: bool,
+    kind: u16,
+    operand: u8,
+    named: u64,
+) -> Part
+    requires { ⌜ (1 ≤ to) × (to ≤ 4096) × (to ≤ length (now work)) × (kind < 16) ⌝ }
     ensures { λ r. ⌜ LeafPut (nodeOf kind operand) named keep (now (work .entry)) to r (now (work .exit)) ⌝ }
 {
     if keep {
@@ -56,8 +63,8 @@ pub fn put_if(work: &mut [u16], to: usize, keep: bool, kind: u16, operand: u8, n
 }
 
 // Nothing gets its node where a statement has to stand.
-pub fn fill(work: &mut [u16], p: Part, to: usize) -> Part
-    requires { ⌜ (1 ≤ p .from) × (p .from ≤ length (now work)) ⌝ }
+pub fn fill(work: &mut [u16; 4096], p: Part, to: usize) -> Part
+    requires { ⌜ (1 ≤ p .from) × (p .from ≤ 4096) ⌝ }
     ensures { λ r. ⌜ Filled (now (work .entry)) to p r (now (work .exit)) ⌝ }
 {
     let from = p.from;
@@ -72,8 +79,15 @@ pub fn fill(work: &mut [u16], p: Part, to: usize) -> Part
 }
 
 // The part alone, or a statement over it.
-pub fn wrap_if(work: &mut [u16], p: Part, to: usize, wrap: bool, kind: u16, operand: u8) -> Part
-    requires { ⌜ (2 ≤ p .from) × (p .from ≤ length (now work)) × (p .depth ≤ 200) × (kind < 16) ⌝ }
+pub fn wrap_if(
+    work: &mut [u16; 4096],
+    p: Part,
+    to: usize,
+    wrap: bool,
+    kind: u16,
+    operand: u8,
+) -> Part
+    requires { ⌜ (2 ≤ p .from) × (p .from ≤ 4096) × (p .depth ≤ 200) × (kind < 16) ⌝ }
     ensures { λ r. ⌜ Wrapped (nodeOf kind operand) wrap (now (work .entry)) to p r (now (work .exit)) ⌝ }
 {
     if !wrap {
@@ -88,8 +102,8 @@ pub fn wrap_if(work: &mut [u16], p: Part, to: usize, wrap: bool, kind: u16, oper
 }
 
 // Two parts, one before the other; one that is nothing is dropped.
-pub fn join_parts(work: &mut [u16], p: Part, q: Part, to: usize, kind: u16) -> Part
-    requires { ⌜ (1 ≤ p .from) × (p .from ≤ length (now work)) × (p .depth ≤ 200) × (q .depth ≤ 200) × (kind < 16) ⌝ }
+pub fn join_parts(work: &mut [u16; 4096], p: Part, q: Part, to: usize, kind: u16) -> Part
+    requires { ⌜ (1 ≤ p .from) × (p .from ≤ 4096) × (p .depth ≤ 200) × (q .depth ≤ 200) × (kind < 16) ⌝ }
     ensures { λ r. ⌜ Joined (nodeOf kind 0) (now (work .entry)) to p q r (now (work .exit)) ⌝ }
 {
     let from = p.from;
@@ -109,8 +123,8 @@ pub fn join_parts(work: &mut [u16], p: Part, q: Part, to: usize, kind: u16) -> P
 }
 
 // The else branch: whole where the present is started; in a try where it is resumed and the first branch can end.
-pub fn close_else(work: &mut [u16], q: Part, to: usize, started: bool, guarded: bool) -> Part
-    requires { ⌜ (3 ≤ q .from) × (q .from ≤ length (now work)) × (q .depth ≤ 200) ⌝ }
+pub fn close_else(work: &mut [u16; 4096], q: Part, to: usize, started: bool, guarded: bool) -> Part
+    requires { ⌜ (3 ≤ q .from) × (q .from ≤ 4096) × (q .depth ≤ 200) ⌝ }
     ensures { λ r. ⌜ ElseClosed started guarded (now (work .entry)) to q r (now (work .exit)) ⌝ }
 {
     if started {
@@ -134,14 +148,14 @@ pub fn close_else(work: &mut [u16], q: Part, to: usize, started: bool, guarded: 
 
 // A present over its branches, or what is left of it where it is only resumed.
 pub fn close_present(
-    work: &mut [u16],
+    work: &mut [u16; 4096],
     p: Part,
     q: Part,
     to: usize,
     started: bool,
     signal: u8,
 ) -> Part
-    requires { ⌜ (cond started 2 1 ≤ p .from) × (p .from ≤ length (now work)) × (p .depth ≤ 200) × (q .depth ≤ 200) × (signal ≤ 31) ⌝ }
+    requires { ⌜ (cond started 2 1 ≤ p .from) × (p .from ≤ 4096) × (p .depth ≤ 200) × (q .depth ≤ 200) × (signal ≤ 31) ⌝ }
     ensures { λ r. ⌜ PresentClosed started signal (now (work .entry)) to p q r (now (work .exit)) ⌝ }
 {
     if !started {

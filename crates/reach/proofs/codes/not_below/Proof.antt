@@ -4,7 +4,8 @@ use Prim.Native.Nat.{_*_, _/_, _^_, _<_}
 use native.Mathlib.Nat.{mod-eq-of-lt, div-mul-le-self, lt-of-le-of-lt}
 use native.Mathlib.Omega.{arith}
 use lib.Count.{trailingZeros, trailing-le}
-use Rattle.reach.proofs.CodeSets.{shift-notBelow, notBelow-empty, lowest-within}
+use Rattle.reach.proofs.CodeSets.{shift-notBelow, notBelow-empty}
+use Rattle.sets.proofs.Members.{least-within}
 use Rattle.esterel.specs.Codes.{notBelow}
 use Rattle.reach.proofs.codes.not_below.Statement.{statement}
 use Rattle.reach.proofs.codes.not_below.Tie as tie
@@ -16,13 +17,13 @@ cast-result : tie.Need-cast-result
 cast-result c = omega (arith, trailing-le 64 (c .before .args .b))
 
 shr-result : tie.Need-shr-result
-shr-result c = lowest-within 64 (c .before .args .b) (c .before .fits .b .fits) (c .if1 .left)
+shr-result c = least-within 64 (c .before .args .b) (c .before .fits .b .fits) (c .if1 .left)
 
 cast-result-2 : tie.Need-cast-result-2
 cast-result-2 c = omega (arith, trailing-le 64 (c .before .args .b))
 
 shl-result : tie.Need-shl-result
-shl-result c = lowest-within 64 (c .before .args .b) (c .before .fits .b .fits) (c .if1 .left)
+shl-result c = least-within 64 (c .before .args .b) (c .before .fits .b .fits) (c .if1 .left)
 
 returns-2 : tie.Need-returns-2
 returns-2 c =

@@ -7,12 +7,11 @@ use Rattle.sets.specs.Set.{has, only}
 use Rattle.trim.specs.Levels.{levelOut}
 use native.Mathlib.Omega.{arith}
 use denote.Ref.{now}
-use lib.ListN.{length}
-use borrow.Author.Tests.{leb-true, leb-false}
+use borrow.Author.Tests.{leb-false}
 use mathlib.Core.Logic.{⊎-elim, inl, inr}
 use Rattle.trim.specs.declared.descent.Around.{Around}
 use Rattle.reach.proofs.Nodes.{Node}
-use Rattle.trim.proofs.Walk.{there, past-kinds}
+use Rattle.trim.proofs.Walk.{there, past, past-kinds}
 use Rattle.trim.proofs.Steps.{one-room, join-ready, join-room, else-room, branch-ready, present-room}
 use Rattle.trim.proofs.ByKind.{at-none, at-nothing, at-unused, leaf-room, at-pause, at-gotopause, at-emit, exit-ready, at-exit, the-signal, the-loop, the-try, at-signal, at-loop, at-try, signal-ready, loop-ready, try-ready, the-present, the-sequence, the-parallel, at-sequence, at-parallel, at-present, at-second, sequence-ready, parallel-ready, present-ready, else-same, sequence-first, parallel-first, present-first, present-signal}
 use borrow.Author.Needs.{needs}
@@ -59,34 +58,36 @@ module _ (t : ℕ) where
   -- where the kind is known: what the function was given, and the node
   module _ (a : trim-at-lts.After-kind-of (claims t) (trim-at-at t) trim-at.Post) where
     abbrev start : trim-at-lts.Start (claims t) (trim-at-at t) trim-at.Post
-    start = a .before .before .before .before .before .before .before .before .before .before .before
+    start = a .before .before .before .before .before .before .before
 
     node : {k : ℕ} → a .kind-of .result ≡ k → Node (start .args .left) (now (start .args .nodes)) (start .args .at) k
-    node = there (a .before .before .before .before .before .before .if1 .left) (a .before .before .before .before .before .if2 .left) (a .kind-of .ensures)
+    node = there (a .before .before .before .before .before .before .if1 .left) (start .pre .1 .all) (a .before .before .before .before .before .if2 .left) (a .kind-of .ensures)
 
   nothing-requires : trim-at-lts.Need-nothing-requires (claims t) (trim-at-at t) trim-at.Post
   nothing-requires c κs = search needs
 
   returns : trim-at-lts.Need-returns (claims t) (trim-at-at t) trim-at.Post
-  returns c = rw (c .nothing .ensures) (at-none ((c .before .before .before .before .before .before) .pre .1) (⊎-elim (λ w. inl (w .taken)) (λ w. inr (leb-true (length (now ((c .before .before .before .before .before .before) .args .nodes))) ((c .before .before .before .before .before .before) .args .at) (w .1 .taken))) (c .before .if1 .came)))
+  returns c =
+      let s = c .before .before in
+      rw (c .nothing .ensures) (at-none (s .pre .1) (past (s .args .left) (now (s .args .nodes)) (s .args .at) (s .pre .1 .all) (⊎-elim (λ w. inl (w .taken)) (λ w. inr (w .1 .taken)) (c .before .if1 .came))))
 
   mul-node : trim-at-lts.Need-mul-node (claims t) (trim-at-at t) trim-at.Post
-  mul-node c = search needs
+  mul-node c = omega (arith, leb-false 1024 (c .before .before .args .at) (c .if2 .left))
 
-  shared-slice-read-node : trim-at-lts.Need-shared-slice-read-node (claims t) (trim-at-at t) trim-at.Post
-  shared-slice-read-node c = search needs
+  element-copy-out-node : trim-at-lts.Need-element-copy-out-node (claims t) (trim-at-at t) trim-at.Post
+  element-copy-out-node c = leb-false 1024 (c .before .before .args .at) (c .if2 .left)
 
   mul-note : trim-at-lts.Need-mul-note (claims t) (trim-at-at t) trim-at.Post
-  mul-note c = search needs
+  mul-note c = omega (arith, leb-false 1024 (c .before .before .before .args .at) (c .before .if2 .left))
 
-  shared-slice-read-note : trim-at-lts.Need-shared-slice-read-note (claims t) (trim-at-at t) trim-at.Post
-  shared-slice-read-note c = omega (arith, (c .before .before .before .before .before .before .before .before) .pre .1 .all, leb-false (length (now ((c .before .before .before .before .before .before .before .before) .args .nodes))) ((c .before .before .before .before .before .before .before .before) .args .at) (c .before .before .if2 .left))
+  element-copy-out-note : trim-at-lts.Need-element-copy-out-note (claims t) (trim-at-at t) trim-at.Post
+  element-copy-out-note c = leb-false 1024 (c .before .before .before .args .at) (c .before .if2 .left)
 
   operand-of-requires : trim-at-lts.Need-operand-of-requires (claims t) (trim-at-at t) trim-at.Post
   operand-of-requires c κs = search needs
 
   add-first : trim-at-lts.Need-add-first (claims t) (trim-at-at t) trim-at.Post
-  add-first c = omega (arith, leb-false (length (now ((c .before .before .before .before .before .before .before .before .before) .args .nodes))) ((c .before .before .before .before .before .before .before .before .before) .args .at) (c .before .before .before .if2 .left))
+  add-first c = omega (arith, leb-false 1024 (c .before .before .before .before .before .args .at) (c .before .before .before .if2 .left))
 
   second-place-requires : trim-at-lts.Need-second-place-requires (claims t) (trim-at-at t) trim-at.Post
   second-place-requires c κs = search needs
@@ -104,22 +105,22 @@ module _ (t : ℕ) where
   keeps-pause-requires c κs = search needs
 
   put-if-requires : trim-at-lts.Need-put-if-requires (claims t) (trim-at-at t) trim-at.Post
-  put-if-requires c κs = let a = c .before .before .before in let r = leaf-room ((start a) .pre .1) (node a (c .before .before .match .keys2)) in (r .0, r .1, omega arith)
+  put-if-requires c κs = let a = c .before .before .before in let r = leaf-room ((start a) .pre .1) (node a (c .before .before .match .keys2)) in (r .0, r .1, r .2, omega arith)
 
   put-if-requires-2 : trim-at-lts.Need-put-if-requires-2 (claims t) (trim-at-at t) trim-at.Post
-  put-if-requires-2 c κs = let a = c .before .before in let r = leaf-room ((start a) .pre .1) (node a (c .before .match .keys3)) in (r .0, r .1, omega arith)
+  put-if-requires-2 c κs = let a = c .before .before in let r = leaf-room ((start a) .pre .1) (node a (c .before .match .keys3)) in (r .0, r .1, r .2, omega arith)
 
   singleton-requires : trim-at-lts.Need-singleton-requires (claims t) (trim-at-at t) trim-at.Post
   singleton-requires c κs = search needs
 
   put-if-requires-3 : trim-at-lts.Need-put-if-requires-3 (claims t) (trim-at-at t) trim-at.Post
-  put-if-requires-3 c κs = let a = c .before .before .before in let r = leaf-room ((start a) .pre .1) (node a (c .before .before .match .keys4)) in (r .0, r .1, omega arith)
+  put-if-requires-3 c κs = let a = c .before .before .before in let r = leaf-room ((start a) .pre .1) (node a (c .before .before .match .keys4)) in (r .0, r .1, r .2, omega arith)
 
   level-out-requires : trim-at-lts.Need-level-out-requires (claims t) (trim-at-at t) trim-at.Post
   level-out-requires c κs = let a = c .before .before in exit-ready ((start a) .pre .1) (node a (c .before .match .keys5)) (a .before .before .operand-of .result) (a .before .before .operand-of .ensures)
 
   put-if-requires-4 : trim-at-lts.Need-put-if-requires-4 (claims t) (trim-at-at t) trim-at.Post
-  put-if-requires-4 c κs = let a = c .before .before .before .before in let r = leaf-room ((start a) .pre .1) (node a (c .before .before .before .match .keys5)) in (r .0, r .1, omega arith)
+  put-if-requires-4 c κs = let a = c .before .before .before .before in let r = leaf-room ((start a) .pre .1) (node a (c .before .before .before .match .keys5)) in (r .0, r .1, r .2, omega arith)
 
   trim-at-requires : trim-at-lts.Need-trim-at-requires (claims t) (trim-at-at t) trim-at.Post
   trim-at-requires c κs = let a = c .before .before .before in (omega (arith, (start a) .pre .0, a .before .before .before .before .before .before .if1 .left), signal-ready ((start a) .pre .1) (node a (c .before .before .match .keys6)))
@@ -128,7 +129,7 @@ module _ (t : ℕ) where
   contains-requires c κs = search needs
 
   wrap-if-requires : trim-at-lts.Need-wrap-if-requires (claims t) (trim-at-at t) trim-at.Post
-  wrap-if-requires c κs = let a = c .before .before .before .before .before .before .before .before .before .before in let r = one-room ((start a) .pre .1) (a .before .before .before .before .before .before .if1 .left) (the-signal ((start a) .pre .1) (node a (c .before .before .before .before .before .before .before .before .before .match .keys6))) (c .before .before .before .before .before .before .trim-at .ensures) in (r .0, r .1, r .2, omega arith)
+  wrap-if-requires c κs = let a = c .before .before .before .before .before .before in let r = one-room ((start a) .pre .1) (a .before .before .before .before .before .before .if1 .left) (the-signal ((start a) .pre .1) (node a (c .before .before .before .before .before .match .keys6))) (c .before .before .trim-at .ensures) in (r .0, r .1, r .2, omega arith)
 
   can-end-requires : trim-at-lts.Need-can-end-requires (claims t) (trim-at-at t) trim-at.Post
   can-end-requires c κs = search needs
@@ -140,13 +141,13 @@ module _ (t : ℕ) where
   trim-at-requires-2 c κs = let a = c .before .before .before .before .before in (omega (arith, (start a) .pre .0, a .before .before .before .before .before .before .if1 .left), present-ready ((start a) .pre .1) (node a (c .before .before .before .before .match .keys7)) (a .before .second-place .result) (a .before .second-place .ensures) (c .before .before .before .can-end .result) (c .before .before .in-else .result) (c .before .before .in-else .ensures))
 
   close-else-requires : trim-at-lts.Need-close-else-requires (claims t) (trim-at-at t) trim-at.Post
-  close-else-requires c κs = let a = c .before .before .before .before .before .before .before .before .before .before .before in else-room ((start a) .pre .1) (a .before .before .before .before .before .before .if1 .left) (the-present ((start a) .pre .1) (node a (c .before .before .before .before .before .before .before .before .before .before .match .keys7))) (at-second ((start a) .pre .1) (the-present ((start a) .pre .1) (node a (c .before .before .before .before .before .before .before .before .before .before .match .keys7))) refl (a .before .second-place .result) (a .before .second-place .ensures) (c .before .before .before .before .before .trim-at2 .ensures))
+  close-else-requires c κs = let a = c .before .before .before .before .before .before .before in else-room ((start a) .pre .1) (a .before .before .before .before .before .before .if1 .left) (the-present ((start a) .pre .1) (node a (c .before .before .before .before .before .before .match .keys7))) (at-second ((start a) .pre .1) (the-present ((start a) .pre .1) (node a (c .before .before .before .before .before .before .match .keys7))) refl (a .before .second-place .result) (a .before .second-place .ensures) (c .before .trim-at2 .ensures))
 
   trim-at-requires-3 : trim-at-lts.Need-trim-at-requires-3 (claims t) (trim-at-at t) trim-at.Post
-  trim-at-requires-3 c κs = let a = c .before .before .before .before .before .before .before .before .before .before .before .before .before .before .before .before in (omega (arith, (start a) .pre .0, a .before .before .before .before .before .before .if1 .left), branch-ready ((start a) .pre .1) (a .before .before .before .before .before .before .if1 .left) (the-present ((start a) .pre .1) (node a (c .before .before .before .before .before .before .before .before .before .before .before .before .before .before .before .match .keys7))) (at-second ((start a) .pre .1) (the-present ((start a) .pre .1) (node a (c .before .before .before .before .before .before .before .before .before .before .before .before .before .before .before .match .keys7))) refl (a .before .second-place .result) (a .before .second-place .ensures) (c .before .before .before .before .before .before .before .before .before .before .trim-at2 .ensures)) (c .before .before .before .before .close-else .ensures) (present-first ((start a) .pre .1) (node a (c .before .before .before .before .before .before .before .before .before .before .before .before .before .before .before .match .keys7))) (c .before .before .before .before .before .before .before .before .before .before .trim-at2 .kept .1 .1 .1 .1 .1 .1 .0) (else-same ((start a) .pre .1) (c .before .before .before .before .before .before .before .before .before .before .before .before .before .before .can-end .result) (c .before .before .before .before .before .before .before .before .before .before .before .before .before .in-else .result) (c .before .before .before .before .before .before .before .before .before .before .before .before .before .in-else .ensures)))
+  trim-at-requires-3 c κs = let a = c .before .before .before .before .before .before .before .before .before .before in (omega (arith, (start a) .pre .0, a .before .before .before .before .before .before .if1 .left), branch-ready ((start a) .pre .1) (a .before .before .before .before .before .before .if1 .left) (the-present ((start a) .pre .1) (node a (c .before .before .before .before .before .before .before .before .before .match .keys7))) (at-second ((start a) .pre .1) (the-present ((start a) .pre .1) (node a (c .before .before .before .before .before .before .before .before .before .match .keys7))) refl (a .before .second-place .result) (a .before .second-place .ensures) (c .before .before .before .before .trim-at2 .ensures)) (c .before .before .close-else .ensures) (present-first ((start a) .pre .1) (node a (c .before .before .before .before .before .before .before .before .before .match .keys7))) (else-same ((start a) .pre .1) (c .before .before .before .before .before .before .before .before .can-end .result) (c .before .before .before .before .before .before .before .in-else .result) (c .before .before .before .before .before .before .before .in-else .ensures)))
 
   close-present-requires : trim-at-lts.Need-close-present-requires (claims t) (trim-at-at t) trim-at.Post
-  close-present-requires c κs = let a = c .before .before .before .before .before .before .before .before .before .before .before .before .before .before .before .before .before .before .before .before .before .before in present-room ((start a) .pre .1) (a .before .before .before .before .before .before .if1 .left) (the-present ((start a) .pre .1) (node a (c .before .before .before .before .before .before .before .before .before .before .before .before .before .before .before .before .before .before .before .before .before .match .keys7))) (at-second ((start a) .pre .1) (the-present ((start a) .pre .1) (node a (c .before .before .before .before .before .before .before .before .before .before .before .before .before .before .before .before .before .before .before .before .before .match .keys7))) refl (a .before .second-place .result) (a .before .second-place .ensures) (c .before .before .before .before .before .before .before .before .before .before .before .before .before .before .before .before .trim-at2 .ensures)) (c .before .before .before .before .before .before .before .before .before .before .close-else .ensures) (c .before .before .before .before .before .trim-at3 .ensures) (a .before .before .operand-of .result) (rw (a .before .before .operand-of .ensures) (present-signal ((start a) .pre .1) (node a (c .before .before .before .before .before .before .before .before .before .before .before .before .before .before .before .before .before .before .before .before .before .match .keys7))))
+  close-present-requires c κs = let a = c .before .before .before .before .before .before .before .before .before .before .before .before in present-room ((start a) .pre .1) (a .before .before .before .before .before .before .if1 .left) (the-present ((start a) .pre .1) (node a (c .before .before .before .before .before .before .before .before .before .before .before .match .keys7))) (at-second ((start a) .pre .1) (the-present ((start a) .pre .1) (node a (c .before .before .before .before .before .before .before .before .before .before .before .match .keys7))) refl (a .before .second-place .result) (a .before .second-place .ensures) (c .before .before .before .before .before .before .trim-at2 .ensures)) (c .before .before .before .before .close-else .ensures) (c .before .trim-at3 .ensures) (a .before .before .operand-of .result) (rw (a .before .before .operand-of .ensures) (present-signal ((start a) .pre .1) (node a (c .before .before .before .before .before .before .before .before .before .before .before .match .keys7))))
 
   can-end-requires-2 : trim-at-lts.Need-can-end-requires-2 (claims t) (trim-at-at t) trim-at.Post
   can-end-requires-2 c κs = search needs
@@ -158,19 +159,19 @@ module _ (t : ℕ) where
   trim-at-requires-4 c κs = let a = c .before .before .before .before .before in (omega (arith, (start a) .pre .0, a .before .before .before .before .before .before .if1 .left), sequence-ready ((start a) .pre .1) (node a (c .before .before .before .before .match .keys8)) (a .before .second-place .result) (a .before .second-place .ensures) (c .before .before .before .can-end2 .result) (c .before .before .with-started .result) (c .before .before .before .can-end2 .ensures) (c .before .before .with-started .ensures))
 
   trim-at-requires-5 : trim-at-lts.Need-trim-at-requires-5 (claims t) (trim-at-at t) trim-at.Post
-  trim-at-requires-5 c κs = let a = c .before .before .before .before .before .before .before .before .before .before .before .before in (omega (arith, (start a) .pre .0, a .before .before .before .before .before .before .if1 .left), join-ready ((start a) .pre .1) (a .before .before .before .before .before .before .if1 .left) (the-sequence ((start a) .pre .1) (node a (c .before .before .before .before .before .before .before .before .before .before .before .match .keys8))) (at-second ((start a) .pre .1) (the-sequence ((start a) .pre .1) (node a (c .before .before .before .before .before .before .before .before .before .before .before .match .keys8))) refl (a .before .second-place .result) (a .before .second-place .ensures) (c .before .before .before .before .before .before .trim-at4 .ensures)) (sequence-first ((start a) .pre .1) (node a (c .before .before .before .before .before .before .before .before .before .before .before .match .keys8))) (c .before .before .before .before .before .before .trim-at4 .kept .1 .1 .1 .1 .1 .1 .0) (ap (λ (z : Around). z .tries) (c .before .before .before .before .before .before .before .before .before .with-started .ensures)))
+  trim-at-requires-5 c κs = let a = c .before .before .before .before .before .before .before .before in (omega (arith, (start a) .pre .0, a .before .before .before .before .before .before .if1 .left), join-ready ((start a) .pre .1) (a .before .before .before .before .before .before .if1 .left) (the-sequence ((start a) .pre .1) (node a (c .before .before .before .before .before .before .before .match .keys8))) (at-second ((start a) .pre .1) (the-sequence ((start a) .pre .1) (node a (c .before .before .before .before .before .before .before .match .keys8))) refl (a .before .second-place .result) (a .before .second-place .ensures) (c .before .before .trim-at4 .ensures)) (sequence-first ((start a) .pre .1) (node a (c .before .before .before .before .before .before .before .match .keys8))) (ap (λ (z : Around). z .tries) (c .before .before .before .before .before .with-started .ensures)))
 
   join-parts-requires : trim-at-lts.Need-join-parts-requires (claims t) (trim-at-at t) trim-at.Post
-  join-parts-requires c κs = let a = c .before .before .before .before .before .before .before .before .before .before .before .before .before .before .before .before .before .before in let r = join-room ((start a) .pre .1) (a .before .before .before .before .before .before .if1 .left) (the-sequence ((start a) .pre .1) (node a (c .before .before .before .before .before .before .before .before .before .before .before .before .before .before .before .before .before .match .keys8))) (at-second ((start a) .pre .1) (the-sequence ((start a) .pre .1) (node a (c .before .before .before .before .before .before .before .before .before .before .before .before .before .before .before .before .before .match .keys8))) refl (a .before .second-place .result) (a .before .second-place .ensures) (c .before .before .before .before .before .before .before .before .before .before .before .before .trim-at4 .ensures)) (c .before .before .before .before .before .trim-at5 .ensures) in (r .0, r .1, r .2, r .3, omega arith)
+  join-parts-requires c κs = let a = c .before .before .before .before .before .before .before .before .before .before in let r = join-room ((start a) .pre .1) (a .before .before .before .before .before .before .if1 .left) (the-sequence ((start a) .pre .1) (node a (c .before .before .before .before .before .before .before .before .before .match .keys8))) (at-second ((start a) .pre .1) (the-sequence ((start a) .pre .1) (node a (c .before .before .before .before .before .before .before .before .before .match .keys8))) refl (a .before .second-place .result) (a .before .second-place .ensures) (c .before .before .before .before .trim-at4 .ensures)) (c .before .trim-at5 .ensures) in (r .0, r .1, r .2, r .3, omega arith)
 
   trim-at-requires-6 : trim-at-lts.Need-trim-at-requires-6 (claims t) (trim-at-at t) trim-at.Post
   trim-at-requires-6 c κs = let a = c .before .before .before in (omega (arith, (start a) .pre .0, a .before .before .before .before .before .before .if1 .left), parallel-ready ((start a) .pre .1) (node a (c .before .before .match .keys9)) (a .before .second-place .result) (a .before .second-place .ensures))
 
   trim-at-requires-7 : trim-at-lts.Need-trim-at-requires-7 (claims t) (trim-at-at t) trim-at.Post
-  trim-at-requires-7 c κs = let a = c .before .before .before .before .before .before .before .before .before .before in (omega (arith, (start a) .pre .0, a .before .before .before .before .before .before .if1 .left), join-ready ((start a) .pre .1) (a .before .before .before .before .before .before .if1 .left) (the-parallel ((start a) .pre .1) (node a (c .before .before .before .before .before .before .before .before .before .match .keys9))) (at-second ((start a) .pre .1) (the-parallel ((start a) .pre .1) (node a (c .before .before .before .before .before .before .before .before .before .match .keys9))) refl (a .before .second-place .result) (a .before .second-place .ensures) (c .before .before .before .before .before .before .trim-at6 .ensures)) (parallel-first ((start a) .pre .1) (node a (c .before .before .before .before .before .before .before .before .before .match .keys9))) (c .before .before .before .before .before .before .trim-at6 .kept .1 .1 .1 .1 .1 .1 .0) refl)
+  trim-at-requires-7 c κs = let a = c .before .before .before .before .before .before in (omega (arith, (start a) .pre .0, a .before .before .before .before .before .before .if1 .left), join-ready ((start a) .pre .1) (a .before .before .before .before .before .before .if1 .left) (the-parallel ((start a) .pre .1) (node a (c .before .before .before .before .before .match .keys9))) (at-second ((start a) .pre .1) (the-parallel ((start a) .pre .1) (node a (c .before .before .before .before .before .match .keys9))) refl (a .before .second-place .result) (a .before .second-place .ensures) (c .before .before .trim-at6 .ensures)) (parallel-first ((start a) .pre .1) (node a (c .before .before .before .before .before .match .keys9))) refl)
 
   join-parts-requires-2 : trim-at-lts.Need-join-parts-requires-2 (claims t) (trim-at-at t) trim-at.Post
-  join-parts-requires-2 c κs = let a = c .before .before .before .before .before .before .before .before .before .before .before .before .before .before .before .before in let r = join-room ((start a) .pre .1) (a .before .before .before .before .before .before .if1 .left) (the-parallel ((start a) .pre .1) (node a (c .before .before .before .before .before .before .before .before .before .before .before .before .before .before .before .match .keys9))) (at-second ((start a) .pre .1) (the-parallel ((start a) .pre .1) (node a (c .before .before .before .before .before .before .before .before .before .before .before .before .before .before .before .match .keys9))) refl (a .before .second-place .result) (a .before .second-place .ensures) (c .before .before .before .before .before .before .before .before .before .before .before .before .trim-at6 .ensures)) (c .before .before .before .before .before .trim-at7 .ensures) in (r .0, r .1, r .2, r .3, omega arith)
+  join-parts-requires-2 c κs = let a = c .before .before .before .before .before .before .before .before in let r = join-room ((start a) .pre .1) (a .before .before .before .before .before .before .if1 .left) (the-parallel ((start a) .pre .1) (node a (c .before .before .before .before .before .before .before .match .keys9))) (at-second ((start a) .pre .1) (the-parallel ((start a) .pre .1) (node a (c .before .before .before .before .before .before .before .match .keys9))) refl (a .before .second-place .result) (a .before .second-place .ensures) (c .before .before .before .before .trim-at6 .ensures)) (c .before .trim-at7 .ensures) in (r .0, r .1, r .2, r .3, omega arith)
 
   can-end-requires-3 : trim-at-lts.Need-can-end-requires-3 (claims t) (trim-at-at t) trim-at.Post
   can-end-requires-3 c κs = search needs
@@ -182,7 +183,7 @@ module _ (t : ℕ) where
   trim-at-requires-8 c κs = let a = c .before .before .before .before .before in (omega (arith, (start a) .pre .0, a .before .before .before .before .before .before .if1 .left), loop-ready ((start a) .pre .1) (node a (c .before .before .before .before .match .keys10)) (c .before .before .before .can-end3 .result) (c .before .before .with-started2 .result) (c .before .before .before .can-end3 .ensures) (c .before .before .with-started2 .ensures))
 
   wrap-if-requires-2 : trim-at-lts.Need-wrap-if-requires-2 (claims t) (trim-at-at t) trim-at.Post
-  wrap-if-requires-2 c κs = let a = c .before .before .before .before .before .before .before .before .before .before .before in let r = one-room ((start a) .pre .1) (a .before .before .before .before .before .before .if1 .left) (the-loop ((start a) .pre .1) (node a (c .before .before .before .before .before .before .before .before .before .before .match .keys10))) (c .before .before .before .before .before .trim-at8 .ensures) in (r .0, r .1, r .2, omega arith)
+  wrap-if-requires-2 c κs = let a = c .before .before .before .before .before .before .before in let r = one-room ((start a) .pre .1) (a .before .before .before .before .before .before .if1 .left) (the-loop ((start a) .pre .1) (node a (c .before .before .before .before .before .before .match .keys10))) (c .before .trim-at8 .ensures) in (r .0, r .1, r .2, omega arith)
 
   keeps-try-requires : trim-at-lts.Need-keeps-try-requires (claims t) (trim-at-at t) trim-at.Post
   keeps-try-requires c κs = search needs
@@ -191,10 +192,10 @@ module _ (t : ℕ) where
   in-try-requires c κs = search needs
 
   trim-at-requires-9 : trim-at-lts.Need-trim-at-requires-9 (claims t) (trim-at-at t) trim-at.Post
-  trim-at-requires-9 c κs = let a = c .before .before .before .before .before .before .before .before in (omega (arith, (start a) .pre .0, a .before .before .before .before .before .before .if1 .left), try-ready ((start a) .pre .1) (node a (c .before .before .before .before .before .before .before .match .keys11)) (c .before .before .before .before .before .before .keeps-try .result) (c .before .before .before .before .in-try .result) (c .before .before .before .before .in-try .last .0) (c .before .before .before .before .before .before .keeps-try .ensures) (c .before .before .before .before .in-try .ensures .0) (c .before .before .before .before .in-try .ensures .1))
+  trim-at-requires-9 c κs = let a = c .before .before .before .before .before .before in (omega (arith, (start a) .pre .0, a .before .before .before .before .before .before .if1 .left), try-ready ((start a) .pre .1) (node a (c .before .before .before .before .before .match .keys11)) (c .before .before .before .before .keeps-try .result) (c .before .before .in-try .result) (c .before .before .in-try .last .0) (c .before .before .before .before .keeps-try .ensures) (c .before .before .in-try .ensures .0) (c .before .before .in-try .ensures .1))
 
   wrap-if-requires-3 : trim-at-lts.Need-wrap-if-requires-3 (claims t) (trim-at-at t) trim-at.Post
-  wrap-if-requires-3 c κs = let a = c .before .before .before .before .before .before .before .before .before .before .before .before .before .before in let r = one-room ((start a) .pre .1) (a .before .before .before .before .before .before .if1 .left) (the-try ((start a) .pre .1) (node a (c .before .before .before .before .before .before .before .before .before .before .before .before .before .match .keys11))) (c .before .before .before .before .before .trim-at9 .ensures) in (r .0, r .1, r .2, omega arith)
+  wrap-if-requires-3 c κs = let a = c .before .before .before .before .before .before .before .before in let r = one-room ((start a) .pre .1) (a .before .before .before .before .before .before .if1 .left) (the-try ((start a) .pre .1) (node a (c .before .before .before .before .before .before .before .match .keys11))) (c .before .trim-at9 .ensures) in (r .0, r .1, r .2, omega arith)
 
   nothing-requires-3 : trim-at-lts.Need-nothing-requires-3 (claims t) (trim-at-at t) trim-at.Post
   nothing-requires-3 c κs = search needs
@@ -205,86 +206,35 @@ module _ (t : ℕ) where
   returns-2 : trim-at-lts.Need-returns-2 (claims t) (trim-at-at t) trim-at.Post
   returns-2 c = let a = c .before .before in rw (c .nothing2 .ensures) (at-nothing ((start a) .pre .1) (node a (c .before .match .keys1)))
 
-  same-length : trim-at-lts.Need-same-length (claims t) (trim-at-at t) trim-at.Post
-  same-length c = search needs
-
   returns-3 : trim-at-lts.Need-returns-3 (claims t) (trim-at-at t) trim-at.Post
-  returns-3 c = let a = c .before .before .before .before .before .before in at-pause ((start a) .pre .1) (node a (c .before .before .before .before .before .match .keys2)) (c .before .before .before .keeps-pause .result) (c .before .before .put-if .result) (c .before .before .put-if .last .0) ((c .before .before .before .keeps-pause .ensures) ∙ ap (λ (o : ℕ). (start a) .args .around .started || has ((start a) .args .r) o) (a .before .before .operand-of .ensures)) (rw (a .before .before .operand-of .ensures) at (c .before .before .put-if .ensures))
-
-  same-length-2 : trim-at-lts.Need-same-length-2 (claims t) (trim-at-at t) trim-at.Post
-  same-length-2 c = search needs
+  returns-3 c = let a = c .before .before .before .before in at-pause ((start a) .pre .1) (node a (c .before .before .before .match .keys2)) (c .before .keeps-pause .result) (c .put-if .result) (c .put-if .last .0) ((c .before .keeps-pause .ensures) ∙ ap (λ (o : ℕ). (start a) .args .around .started || has ((start a) .args .r) o) (a .before .before .operand-of .ensures)) (rw (a .before .before .operand-of .ensures) at (c .put-if .ensures))
 
   returns-4 : trim-at-lts.Need-returns-4 (claims t) (trim-at-at t) trim-at.Post
-  returns-4 c = let a = c .before .before .before .before .before in at-gotopause ((start a) .pre .1) (node a (c .before .before .before .before .match .keys3)) (c .before .before .put-if2 .result) (c .before .before .put-if2 .last .0) (rw (a .before .before .operand-of .ensures) at (c .before .before .put-if2 .ensures))
-
-  same-length-3 : trim-at-lts.Need-same-length-3 (claims t) (trim-at-at t) trim-at.Post
-  same-length-3 c = search needs
+  returns-4 c = let a = c .before .before .before in at-gotopause ((start a) .pre .1) (node a (c .before .before .match .keys3)) (c .put-if2 .result) (c .put-if2 .last .0) (rw (a .before .before .operand-of .ensures) at (c .put-if2 .ensures))
 
   returns-5 : trim-at-lts.Need-returns-5 (claims t) (trim-at-at t) trim-at.Post
-  returns-5 c = let a = c .before .before .before .before .before .before in at-emit ((start a) .pre .1) (node a (c .before .before .before .before .before .match .keys4)) (c .before .before .before .singleton .result) (c .before .before .put-if3 .result) (c .before .before .put-if3 .last .0) ((c .before .before .before .singleton .ensures) ∙ ap (λ (o : ℕ). only o % 2 ^ 64) (a .before .before .operand-of .ensures)) (rw (a .before .before .operand-of .ensures) at (c .before .before .put-if3 .ensures))
-
-  same-length-4 : trim-at-lts.Need-same-length-4 (claims t) (trim-at-at t) trim-at.Post
-  same-length-4 c = search needs
-
-  same-length-5 : trim-at-lts.Need-same-length-5 (claims t) (trim-at-at t) trim-at.Post
-  same-length-5 c = search needs
+  returns-5 c = let a = c .before .before .before .before in at-emit ((start a) .pre .1) (node a (c .before .before .before .match .keys4)) (c .before .singleton .result) (c .put-if3 .result) (c .put-if3 .last .0) ((c .before .singleton .ensures) ∙ ap (λ (o : ℕ). only o % 2 ^ 64) (a .before .before .operand-of .ensures)) (rw (a .before .before .operand-of .ensures) at (c .put-if3 .ensures))
 
   returns-6 : trim-at-lts.Need-returns-6 (claims t) (trim-at-at t) trim-at.Post
-  returns-6 c = let a = c .before .before .before .before .before .before .before in at-exit ((start a) .pre .1) (node a (c .before .before .before .before .before .before .match .keys5)) (c .before .before .before .before .level-out .result .0) (c .before .before .put-if4 .result) (c .before .before .put-if4 .last .0) ((c .before .before .before .before .level-out .ensures) ∙ ap (levelOut (now ((start a) .args .places)) ((start a) .args .around)) (a .before .before .operand-of .ensures)) (c .before .before .put-if4 .ensures)
-
-  same-length-6 : trim-at-lts.Need-same-length-6 (claims t) (trim-at-at t) trim-at.Post
-  same-length-6 c = search needs
-
-  same-length-7 : trim-at-lts.Need-same-length-7 (claims t) (trim-at-at t) trim-at.Post
-  same-length-7 c = search needs
+  returns-6 c = let a = c .before .before .before .before .before in at-exit ((start a) .pre .1) (node a (c .before .before .before .before .match .keys5)) (c .before .before .level-out .result .0) (c .put-if4 .result) (c .put-if4 .last .0) ((c .before .before .level-out .ensures) ∙ ap (levelOut (now ((start a) .args .places)) ((start a) .args .around)) (a .before .before .operand-of .ensures)) (c .put-if4 .ensures)
 
   returns-7 : trim-at-lts.Need-returns-7 (claims t) (trim-at-at t) trim-at.Post
-  returns-7 c = let a = c .before .before .before .before .before .before .before .before .before .before .before .before .before in at-signal ((start a) .pre .1) (node a (c .before .before .before .before .before .before .before .before .before .before .before .before .match .keys6)) (c .before .before .before .contains .result) (c .before .before .before .before .before .before .before .before .before .trim-at .result) (c .before .before .wrap-if .result) (c .before .before .before .before .before .before .before .before .before .trim-at .last .1 .1 .1 .1 .1 .1 .0) (c .before .before .before .before .before .before .before .before .before .trim-at .last .1 .1 .1 .1 .1 .1 .1 .0) (c .before .before .wrap-if .last .0) (c .before .before .before .before .before .before .before .before .before .trim-at .ensures) ((c .before .before .before .contains .ensures) ∙ ap (has (c .before .before .before .before .before .before .before .before .before .trim-at .result .named)) (a .before .before .operand-of .ensures)) (rw (a .before .before .operand-of .ensures) at (c .before .before .wrap-if .ensures))
-
-  same-length-8 : trim-at-lts.Need-same-length-8 (claims t) (trim-at-at t) trim-at.Post
-  same-length-8 c = search needs
-
-  same-length-9 : trim-at-lts.Need-same-length-9 (claims t) (trim-at-at t) trim-at.Post
-  same-length-9 c = search needs
+  returns-7 c = let a = c .before .before .before .before .before .before .before in at-signal ((start a) .pre .1) (node a (c .before .before .before .before .before .before .match .keys6)) (c .before .contains .result) (c .before .before .before .trim-at .result) (c .wrap-if .result) (c .before .before .before .trim-at .last .1 .1 .1 .1 .1 .1 .0) (c .before .before .before .trim-at .last .1 .1 .1 .1 .1 .1 .1 .0) (c .wrap-if .last .0) (c .before .before .before .trim-at .ensures) ((c .before .contains .ensures) ∙ ap (has (c .before .before .before .trim-at .result .named)) (a .before .before .operand-of .ensures)) (rw (a .before .before .operand-of .ensures) at (c .wrap-if .ensures))
 
   returns-8 : trim-at-lts.Need-returns-8 (claims t) (trim-at-at t) trim-at.Post
-  returns-8 c = let a = c .before .before .before .before .before .before .before .before .before .before .before .before .before .before .before .before .before .before .before .before .before .before .before .before .before in at-present ((start a) .pre .1) (node a (c .before .before .before .before .before .before .before .before .before .before .before .before .before .before .before .before .before .before .before .before .before .before .before .before .match .keys7)) (c .before .before .before .before .before .before .before .before .before .before .before .before .before .before .before .before .before .before .before .before .before .before .before .can-end .result) (c .before .before .before .before .before .before .before .before .before .before .before .before .before .before .before .before .before .before .before .before .before .before .in-else .result) (c .before .before .before .before .before .before .before .before .trim-at3 .result) (c .before .before .before .before .before .before .before .before .before .before .before .before .before .before .before .before .before .before .before .trim-at2 .result) (c .before .before .before .before .before .before .before .before .before .before .before .before .before .close-else .result) (c .before .before .close-present .result) (c .before .before .before .before .before .before .before .before .before .before .before .before .before .before .before .before .before .before .before .trim-at2 .last .1 .1 .1 .1 .1 .1 .0) (c .before .before .before .before .before .before .before .before .trim-at3 .last .1 .1 .1 .1 .1 .1 .0) (c .before .before .before .before .before .before .before .before .before .before .before .before .before .before .before .before .before .before .before .trim-at2 .last .1 .1 .1 .1 .1 .1 .1 .0) (c .before .before .before .before .before .before .before .before .before .before .before .before .before .close-else .last .0) (c .before .before .before .before .before .before .before .before .trim-at3 .last .1 .1 .1 .1 .1 .1 .1 .0) (c .before .before .close-present .last .0) (c .before .before .before .before .before .before .before .before .before .before .before .before .before .before .before .before .before .before .before .before .before .before .before .can-end .ensures) (c .before .before .before .before .before .before .before .before .before .before .before .before .before .before .before .before .before .before .before .before .before .before .in-else .ensures) (at-second ((start a) .pre .1) (the-present ((start a) .pre .1) (node a (c .before .before .before .before .before .before .before .before .before .before .before .before .before .before .before .before .before .before .before .before .before .before .before .before .match .keys7))) refl (a .before .second-place .result) (a .before .second-place .ensures) (c .before .before .before .before .before .before .before .before .before .before .before .before .before .before .before .before .before .before .before .trim-at2 .ensures)) (c .before .before .before .before .before .before .before .before .before .before .before .before .before .close-else .ensures) (c .before .before .before .before .before .before .before .before .trim-at3 .ensures) (rw (a .before .before .operand-of .ensures) at (c .before .before .close-present .ensures))
-
-  same-length-10 : trim-at-lts.Need-same-length-10 (claims t) (trim-at-at t) trim-at.Post
-  same-length-10 c = search needs
-
-  same-length-11 : trim-at-lts.Need-same-length-11 (claims t) (trim-at-at t) trim-at.Post
-  same-length-11 c = search needs
+  returns-8 c = let a = c .before .before .before .before .before .before .before .before .before .before .before .before .before in at-present ((start a) .pre .1) (node a (c .before .before .before .before .before .before .before .before .before .before .before .before .match .keys7)) (c .before .before .before .before .before .before .before .before .before .before .before .can-end .result) (c .before .before .before .before .before .before .before .before .before .before .in-else .result) (c .before .before .trim-at3 .result) (c .before .before .before .before .before .before .before .trim-at2 .result) (c .before .before .before .before .before .close-else .result) (c .close-present .result) (c .before .before .before .before .before .before .before .trim-at2 .last .1 .1 .1 .1 .1 .1 .0) (c .before .before .trim-at3 .last .1 .1 .1 .1 .1 .1 .0) (c .before .before .before .before .before .before .before .trim-at2 .last .1 .1 .1 .1 .1 .1 .1 .0) (c .before .before .before .before .before .close-else .last .0) (c .before .before .trim-at3 .last .1 .1 .1 .1 .1 .1 .1 .0) (c .close-present .last .0) (c .before .before .before .before .before .before .before .before .before .before .before .can-end .ensures) (c .before .before .before .before .before .before .before .before .before .before .in-else .ensures) (at-second ((start a) .pre .1) (the-present ((start a) .pre .1) (node a (c .before .before .before .before .before .before .before .before .before .before .before .before .match .keys7))) refl (a .before .second-place .result) (a .before .second-place .ensures) (c .before .before .before .before .before .before .before .trim-at2 .ensures)) (c .before .before .before .before .before .close-else .ensures) (c .before .before .trim-at3 .ensures) (rw (a .before .before .operand-of .ensures) at (c .close-present .ensures))
 
   returns-9 : trim-at-lts.Need-returns-9 (claims t) (trim-at-at t) trim-at.Post
-  returns-9 c = let a = c .before .before .before .before .before .before .before .before .before .before .before .before .before .before .before .before .before .before .before .before .before in at-sequence ((start a) .pre .1) (node a (c .before .before .before .before .before .before .before .before .before .before .before .before .before .before .before .before .before .before .before .before .match .keys8)) (c .before .before .before .before .before .before .before .before .before .before .before .before .before .before .before .before .before .before .before .can-end2 .result) (c .before .before .before .before .before .before .before .before .before .before .before .before .before .before .before .before .before .before .with-started .result) (c .before .before .before .before .before .before .before .before .trim-at5 .result) (c .before .before .before .before .before .before .before .before .before .before .before .before .before .before .before .trim-at4 .result) (c .before .before .join-parts .result) (c .before .before .before .before .before .before .before .before .before .before .before .before .before .before .before .trim-at4 .last .1 .1 .1 .1 .1 .1 .0) (c .before .before .before .before .before .before .before .before .trim-at5 .last .1 .1 .1 .1 .1 .1 .0) (c .before .before .before .before .before .before .before .before .before .before .before .before .before .before .before .trim-at4 .last .1 .1 .1 .1 .1 .1 .1 .0) (c .before .before .before .before .before .before .before .before .trim-at5 .last .1 .1 .1 .1 .1 .1 .1 .0) (c .before .before .join-parts .last .0) (c .before .before .before .before .before .before .before .before .before .before .before .before .before .before .before .before .before .before .before .can-end2 .ensures) (c .before .before .before .before .before .before .before .before .before .before .before .before .before .before .before .before .before .before .with-started .ensures) (at-second ((start a) .pre .1) (the-sequence ((start a) .pre .1) (node a (c .before .before .before .before .before .before .before .before .before .before .before .before .before .before .before .before .before .before .before .before .match .keys8))) refl (a .before .second-place .result) (a .before .second-place .ensures) (c .before .before .before .before .before .before .before .before .before .before .before .before .before .before .before .trim-at4 .ensures)) (c .before .before .before .before .before .before .before .before .trim-at5 .ensures) (c .before .before .join-parts .ensures)
-
-  same-length-12 : trim-at-lts.Need-same-length-12 (claims t) (trim-at-at t) trim-at.Post
-  same-length-12 c = search needs
-
-  same-length-13 : trim-at-lts.Need-same-length-13 (claims t) (trim-at-at t) trim-at.Post
-  same-length-13 c = search needs
+  returns-9 c = let a = c .before .before .before .before .before .before .before .before .before .before .before in at-sequence ((start a) .pre .1) (node a (c .before .before .before .before .before .before .before .before .before .before .match .keys8)) (c .before .before .before .before .before .before .before .before .before .can-end2 .result) (c .before .before .before .before .before .before .before .before .with-started .result) (c .before .before .trim-at5 .result) (c .before .before .before .before .before .trim-at4 .result) (c .join-parts .result) (c .before .before .before .before .before .trim-at4 .last .1 .1 .1 .1 .1 .1 .0) (c .before .before .trim-at5 .last .1 .1 .1 .1 .1 .1 .0) (c .before .before .before .before .before .trim-at4 .last .1 .1 .1 .1 .1 .1 .1 .0) (c .before .before .trim-at5 .last .1 .1 .1 .1 .1 .1 .1 .0) (c .join-parts .last .0) (c .before .before .before .before .before .before .before .before .before .can-end2 .ensures) (c .before .before .before .before .before .before .before .before .with-started .ensures) (at-second ((start a) .pre .1) (the-sequence ((start a) .pre .1) (node a (c .before .before .before .before .before .before .before .before .before .before .match .keys8))) refl (a .before .second-place .result) (a .before .second-place .ensures) (c .before .before .before .before .before .trim-at4 .ensures)) (c .before .before .trim-at5 .ensures) (c .join-parts .ensures)
 
   returns-10 : trim-at-lts.Need-returns-10 (claims t) (trim-at-at t) trim-at.Post
-  returns-10 c = let a = c .before .before .before .before .before .before .before .before .before .before .before .before .before .before .before .before .before .before .before in at-parallel ((start a) .pre .1) (node a (c .before .before .before .before .before .before .before .before .before .before .before .before .before .before .before .before .before .before .match .keys9)) (c .before .before .before .before .before .before .before .before .trim-at7 .result) (c .before .before .before .before .before .before .before .before .before .before .before .before .before .before .before .trim-at6 .result) (c .before .before .join-parts2 .result) (c .before .before .before .before .before .before .before .before .before .before .before .before .before .before .before .trim-at6 .last .1 .1 .1 .1 .1 .1 .0) (c .before .before .before .before .before .before .before .before .trim-at7 .last .1 .1 .1 .1 .1 .1 .0) (c .before .before .before .before .before .before .before .before .before .before .before .before .before .before .before .trim-at6 .last .1 .1 .1 .1 .1 .1 .1 .0) (c .before .before .before .before .before .before .before .before .trim-at7 .last .1 .1 .1 .1 .1 .1 .1 .0) (c .before .before .join-parts2 .last .0) (at-second ((start a) .pre .1) (the-parallel ((start a) .pre .1) (node a (c .before .before .before .before .before .before .before .before .before .before .before .before .before .before .before .before .before .before .match .keys9))) refl (a .before .second-place .result) (a .before .second-place .ensures) (c .before .before .before .before .before .before .before .before .before .before .before .before .before .before .before .trim-at6 .ensures)) (c .before .before .before .before .before .before .before .before .trim-at7 .ensures) (c .before .before .join-parts2 .ensures)
-
-  same-length-14 : trim-at-lts.Need-same-length-14 (claims t) (trim-at-at t) trim-at.Post
-  same-length-14 c = search needs
-
-  same-length-15 : trim-at-lts.Need-same-length-15 (claims t) (trim-at-at t) trim-at.Post
-  same-length-15 c = search needs
+  returns-10 c = let a = c .before .before .before .before .before .before .before .before .before in at-parallel ((start a) .pre .1) (node a (c .before .before .before .before .before .before .before .before .match .keys9)) (c .before .before .trim-at7 .result) (c .before .before .before .before .before .trim-at6 .result) (c .join-parts2 .result) (c .before .before .before .before .before .trim-at6 .last .1 .1 .1 .1 .1 .1 .0) (c .before .before .trim-at7 .last .1 .1 .1 .1 .1 .1 .0) (c .before .before .before .before .before .trim-at6 .last .1 .1 .1 .1 .1 .1 .1 .0) (c .before .before .trim-at7 .last .1 .1 .1 .1 .1 .1 .1 .0) (c .join-parts2 .last .0) (at-second ((start a) .pre .1) (the-parallel ((start a) .pre .1) (node a (c .before .before .before .before .before .before .before .before .match .keys9))) refl (a .before .second-place .result) (a .before .second-place .ensures) (c .before .before .before .before .before .trim-at6 .ensures)) (c .before .before .trim-at7 .ensures) (c .join-parts2 .ensures)
 
   returns-11 : trim-at-lts.Need-returns-11 (claims t) (trim-at-at t) trim-at.Post
-  returns-11 c = let a = c .before .before .before .before .before .before .before .before .before .before .before .before .before .before in at-loop ((start a) .pre .1) (node a (c .before .before .before .before .before .before .before .before .before .before .before .before .before .match .keys10)) (c .before .before .before .before .before .before .before .before .before .before .before .before .can-end3 .result) (c .before .before .before .before .before .before .before .before .before .before .before .with-started2 .result) (c .before .before .before .before .before .before .before .before .trim-at8 .result) (c .before .before .wrap-if2 .result) (c .before .before .before .before .before .before .before .before .trim-at8 .last .1 .1 .1 .1 .1 .1 .0) (c .before .before .before .before .before .before .before .before .trim-at8 .last .1 .1 .1 .1 .1 .1 .1 .0) (c .before .before .wrap-if2 .last .0) (c .before .before .before .before .before .before .before .before .before .before .before .before .can-end3 .ensures) (c .before .before .before .before .before .before .before .before .before .before .before .with-started2 .ensures) (c .before .before .before .before .before .before .before .before .trim-at8 .ensures) (c .before .before .wrap-if2 .ensures)
-
-  same-length-16 : trim-at-lts.Need-same-length-16 (claims t) (trim-at-at t) trim-at.Post
-  same-length-16 c = search needs
-
-  same-length-17 : trim-at-lts.Need-same-length-17 (claims t) (trim-at-at t) trim-at.Post
-  same-length-17 c = search needs
+  returns-11 c = let a = c .before .before .before .before .before .before .before .before in at-loop ((start a) .pre .1) (node a (c .before .before .before .before .before .before .before .match .keys10)) (c .before .before .before .before .before .before .can-end3 .result) (c .before .before .before .before .before .with-started2 .result) (c .before .before .trim-at8 .result) (c .wrap-if2 .result) (c .before .before .trim-at8 .last .1 .1 .1 .1 .1 .1 .0) (c .before .before .trim-at8 .last .1 .1 .1 .1 .1 .1 .1 .0) (c .wrap-if2 .last .0) (c .before .before .before .before .before .before .can-end3 .ensures) (c .before .before .before .before .before .with-started2 .ensures) (c .before .before .trim-at8 .ensures) (c .wrap-if2 .ensures)
 
   returns-12 : trim-at-lts.Need-returns-12 (claims t) (trim-at-at t) trim-at.Post
-  returns-12 c = let a = c .before .before .before .before .before .before .before .before .before .before .before .before .before .before .before .before .before in at-try ((start a) .pre .1) (node a (c .before .before .before .before .before .before .before .before .before .before .before .before .before .before .before .before .match .keys11)) (c .before .before .before .before .before .before .before .before .before .before .before .before .before .before .before .keeps-try .result) (c .before .before .before .before .before .before .before .before .before .before .before .before .before .in-try .result) (c .before .before .before .before .before .before .before .before .trim-at9 .result) (c .before .before .wrap-if3 .result) (c .before .before .before .before .before .before .before .before .before .before .before .before .before .in-try .last .0) (c .before .before .before .before .before .before .before .before .trim-at9 .last .1 .1 .1 .1 .1 .1 .0) (c .before .before .before .before .before .before .before .before .trim-at9 .last .1 .1 .1 .1 .1 .1 .1 .0) (c .before .before .wrap-if3 .last .0) (c .before .before .before .before .before .before .before .before .before .before .before .before .before .before .before .keeps-try .ensures) (c .before .before .before .before .before .before .before .before .before .before .before .before .before .in-try .ensures .0) (c .before .before .before .before .before .before .before .before .before .before .before .before .before .in-try .ensures .1) (c .before .before .before .before .before .before .before .before .trim-at9 .ensures) (c .before .before .wrap-if3 .ensures)
+  returns-12 c = let a = c .before .before .before .before .before .before .before .before .before in at-try ((start a) .pre .1) (node a (c .before .before .before .before .before .before .before .before .match .keys11)) (c .before .before .before .before .before .before .before .keeps-try .result) (c .before .before .before .before .before .in-try .result) (c .before .before .trim-at9 .result) (c .wrap-if3 .result) (c .before .before .before .before .before .in-try .last .0) (c .before .before .trim-at9 .last .1 .1 .1 .1 .1 .1 .0) (c .before .before .trim-at9 .last .1 .1 .1 .1 .1 .1 .1 .0) (c .wrap-if3 .last .0) (c .before .before .before .before .before .before .before .keeps-try .ensures) (c .before .before .before .before .before .in-try .ensures .0) (c .before .before .before .before .before .in-try .ensures .1) (c .before .before .trim-at9 .ensures) (c .wrap-if3 .ensures)
 
   returns-13 : trim-at-lts.Need-returns-13 (claims t) (trim-at-at t) trim-at.Post
   returns-13 c = let a = c .before .before .before in rw (c .nothing3 .ensures) (at-unused ((start a) .pre .1) (node a refl) (past-kinds (a .kind-of .result) (c .before .before .match .rest .0 .0 .0 .0 .0 .0 .0 .0 .0 .0 .1) (c .before .before .match .rest .0 .0 .0 .0 .0 .0 .0 .0 .0 .1) (c .before .before .match .rest .0 .0 .0 .0 .0 .0 .0 .0 .1) (c .before .before .match .rest .0 .0 .0 .0 .0 .0 .0 .1) (c .before .before .match .rest .0 .0 .0 .0 .0 .0 .1) (c .before .before .match .rest .0 .0 .0 .0 .0 .1) (c .before .before .match .rest .0 .0 .0 .0 .1) (c .before .before .match .rest .0 .0 .0 .1) (c .before .before .match .rest .0 .0 .1) (c .before .before .match .rest .0 .1) (c .before .before .match .rest .1)))
@@ -303,9 +253,9 @@ pub +trim-at-spec : {M : Type 1} → statement M
     (nothing-requires t)
     (returns t)
     (mul-node t)
-    (shared-slice-read-node t)
+    (element-copy-out-node t)
     (mul-note t)
-    (shared-slice-read-note t)
+    (element-copy-out-note t)
     (operand-of-requires t)
     (add-first t)
     (second-place-requires t)
@@ -347,32 +297,15 @@ pub +trim-at-spec : {M : Type 1} → statement M
     (nothing-requires-3 t)
     (nothing-requires-4 t)
     (returns-2 t)
-    (same-length t)
     (returns-3 t)
-    (same-length-2 t)
     (returns-4 t)
-    (same-length-3 t)
     (returns-5 t)
-    (same-length-4 t)
-    (same-length-5 t)
     (returns-6 t)
-    (same-length-6 t)
-    (same-length-7 t)
     (returns-7 t)
-    (same-length-8 t)
-    (same-length-9 t)
     (returns-8 t)
-    (same-length-10 t)
-    (same-length-11 t)
     (returns-9 t)
-    (same-length-12 t)
-    (same-length-13 t)
     (returns-10 t)
-    (same-length-14 t)
-    (same-length-15 t)
     (returns-11 t)
-    (same-length-16 t)
-    (same-length-17 t)
     (returns-12 t)
     (returns-13 t)
     (returns-14 t)

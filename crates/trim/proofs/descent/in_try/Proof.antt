@@ -9,20 +9,14 @@ use Rattle.trim.proofs.descent.in_try.Tie as tie
 add-tries : tie.Need-add-tries
 add-tries c = search needs
 
-slice-write-places : tie.Need-slice-write-places
-slice-write-places c = search needs
+element-write-places : tie.Need-element-write-places
+element-write-places c = search needs
 
-add-t7 : tie.Need-add-t7
-add-t7 c = search needs
-
-same-length : tie.Need-same-length
-same-length c = search needs
+add-t8 : tie.Need-add-t8
+add-t8 c = search needs
 
 returns : tie.Need-returns
 returns c = (ap (λ (z : Bool). inTry z (c .before .before .before .args .around)) (sym (c .before .if1 .taken)), refl)
-
-same-length-2 : tie.Need-same-length-2
-same-length-2 c = search needs
 
 returns-2 : tie.Need-returns-2
 returns-2 c = (ap (λ (z : Bool). inTry z (c .before .before .args .around)) (sym (c .if1 .left)), refl)
@@ -30,4 +24,4 @@ returns-2 c = (ap (λ (z : Bool). inTry z (c .before .before .args .around)) (sy
 pub in-try-spec : {M : Type 1} → statement M
 in-try-spec =
     tie.close
-    (tie.spec add-tries slice-write-places add-t7 same-length returns same-length-2 returns-2)
+    (tie.spec add-tries element-write-places add-t8 returns returns-2)

@@ -16,11 +16,11 @@ cast-number c = search needs
 sub-number : tie.Need-sub-number
 sub-number c = search needs
 
-shared-slice-read-t8 : tie.Need-shared-slice-read-t8
-shared-slice-read-t8 c = search needs
+element-copy-out-t9 : tie.Need-element-copy-out-t9
+element-copy-out-t9 c = search needs
 
-sub-t9 : tie.Need-sub-t9
-sub-t9 c = let g = c .before .before .before .before in g .pre .low (g .args .around .tries + 1 - g .args .level .0) (omega arith)
+sub-t10 : tie.Need-sub-t10
+sub-t10 c = let g = c .before .before .before .before in g .pre .low (g .args .around .tries + 1 - g .args .level .0) (omega arith)
 
 returns : tie.Need-returns
 unfolding levelOut
@@ -28,4 +28,4 @@ returns c = refl
 
 pub level-out-spec : {M : Type 1} → statement M
 level-out-spec =
-    tie.close (tie.spec add-number cast-number sub-number shared-slice-read-t8 sub-t9 returns)
+    tie.close (tie.spec add-number cast-number sub-number element-copy-out-t9 sub-t10 returns)

@@ -8,14 +8,11 @@ use Rattle.trim.proofs.work.fill.Tie as tie
 put-requires : tie.Need-put-requires
 put-requires c κs = search needs
 
-same-length : tie.Need-same-length
-same-length c = search needs
-
 returns : tie.Need-returns
-returns c = let s = c .before .before .before .before .before .before in filled-none (now (s .args .work)) (s .args .to) (s .args .p) (c .before .before .put .result) (c .before .before .put .last .0) (s .pre .0) (c .before .before .before .before .if1 .taken) (c .before .before .put .ensures)
+returns c = let s = c .before .before .before in filled-none (now (s .args .work)) (s .args .to) (s .args .p) (c .put .result) (c .put .last .0) (s .pre .0) (c .before .before .if1 .taken) (c .put .ensures)
 
 returns-2 : tie.Need-returns-2
-returns-2 c = let s = c .before .before in filled-some (now (s .args .work)) (s .args .to) (s .args .p) (c .if1 .left)
+returns-2 c = let s = c .before in filled-some (now (s .args .work)) (s .args .to) (s .args .p) (c .if1 .left)
 
 pub fill-spec : {M : Type 1} → statement M
-fill-spec = tie.close (tie.spec put-requires same-length returns returns-2)
+fill-spec = tie.close (tie.spec put-requires returns returns-2)

@@ -16,19 +16,16 @@ sub-work c = search needs
 mul-work : tie.Need-mul-work
 mul-work c = search needs
 
-slice-write-work : tie.Need-slice-write-work
-slice-write-work c = search needs
+element-write-work : tie.Need-element-write-work
+element-write-work c = search needs
 
 sub-result : tie.Need-sub-result
 sub-result c = search needs
 
-same-length : tie.Need-same-length
-same-length c = search needs
-
 returns : tie.Need-returns
-returns c = let s = c .before .before in (refl, ap (λ (x : ℕ). set (now (s .args .work)) (s .args .from - 1) x) (c .node-of .ensures))
+returns c = let s = c .before in (refl, ap (λ (x : ℕ). set (now (s .args .work)) (s .args .from - 1) x) (c .node-of .ensures))
 
 pub put-spec : {M : Type 1} → statement M
 put-spec =
     tie.close
-    (tie.spec node-of-requires sub-work mul-work slice-write-work sub-result same-length returns)
+    (tie.spec node-of-requires sub-work mul-work element-write-work sub-result returns)
