@@ -125,7 +125,7 @@ fn find_marked(
         return Answer::Refused(14);
     }
     let n = reactions_in(nodes, ends, pauses, assumed as u64, mark, labels, area);
-    if 64 < n {
+    if n > 64 {
         return Answer::Refused(15);
     }
     Answer::Listed(n as u32)

@@ -115,9 +115,10 @@ fn mark_at(nodes: &[u16], ends: &mut [u16], nests: &mut [u8], pauses: &mut [u64]
 {
     let node = nodes[at];
     let kind = kind_of(node);
+    let own = sets::singleton(operand_of(node));
     match kind {
         0 => note_none(ends, nests, pauses, at, 0),
-        1 => note_none(ends, nests, pauses, at, sets::singleton(operand_of(node))),
+        1 => note_none(ends, nests, pauses, at, own),
         2 => note_none(ends, nests, pauses, at, 0),
         3 => note_none(ends, nests, pauses, at, 0),
         4 => note_none(ends, nests, pauses, at, 0),
