@@ -109,9 +109,9 @@ fn note_two(ends: &mut [u16], nests: &mut [u8], pauses: &mut [u64], at: usize)
 }
 
 // The notes of the statement at a place, from those of its children.
-fn mark_at(nodes: &[u16], ends: &mut [u16], nests: &mut [u8], pauses: &mut [u64], at: usize)
-    requires { ⌜ (at < length (now nodes)) × (length (now nodes) ≤ 1024) × Noted (at + 1) (now nodes) (now ends) (now nests) (now pauses) ⌝ }
-    ensures { λ _. ⌜ Noted at (now (nodes .entry)) (now (ends .exit)) (now (nests .exit)) (now (pauses .exit)) ⌝ }
+fn mark_at(nodes: &[u16; 1024], ends: &mut [u16], nests: &mut [u8], pauses: &mut [u64], at: usize)
+    requires { ⌜ (at < length (now ends)) × (length (now ends) ≤ 1024) × Noted (at + 1) (length (now ends)) (now nodes) (now ends) (now nests) (now pauses) ⌝ }
+    ensures { λ _. ⌜ Noted at (length (now (ends .entry))) (now (nodes .entry)) (now (ends .exit)) (now (nests .exit)) (now (pauses .exit)) ⌝ }
 {
     let node = nodes[at];
     let kind = kind_of(node);
@@ -133,14 +133,33 @@ fn mark_at(nodes: &[u16], ends: &mut [u16], nests: &mut [u8], pauses: &mut [u64]
     }
 }
 
-// The notes of all statements of the nodes.
-pub fn mark(nodes: &[u16], ends: &mut [u16], nests: &mut [u8], pauses: &mut [u64])
-    requires { ⌜ (length (now nodes) ≤ 1024) × (length (now ends) ≡ length (now nodes)) × (length (now nests) ≡ length (now nodes)) × (length (now pauses) ≡ length (now nodes)) ⌝ }
-    ensures { λ _. ⌜ Noted 0 (now (nodes .entry)) (now (ends .exit)) (now (nests .exit)) (now (pauses .exit)) ⌝ }
+// The notes of the statements of the first nodes, as many as there is room for.
+pub fn mark(nodes: &[u16; 1024], ends: &mut [u16], nests: &mut [u8], pauses: &mut [u64])
+    requires { ⌜ (length (now ends) ≤ 1024) × (length (now nests) ≡ length (now ends)) × (length (now pauses) ≡ length (now ends)) ⌝ }
+    ensures { λ _. ⌜ Noted 0 (length (now (ends .entry))) (now (nodes .entry)) (now (ends .exit)) (now (nests .exit)) (now (pauses .exit)) ⌝ }
 {
-    let mut at = nodes.len();
+    let mut at = ends.len();
     while 0 < at {
         at -= 1;
         mark_at(nodes, ends, nests, pauses, at);
     }
+}
+
+// The same in front of more room.
+pub fn mark_front(
+    nodes: &[u16; 1024],
+    count: usize,
+    ends: &mut [u16],
+    nests: &mut [u8],
+    pauses: &mut [u64],
+)
+    requires { ⌜ (count ≤ 1024) × (count ≤ length (now ends)) × (count ≤ length (now nests)) × (count ≤ length (now pauses)) ⌝ }
+    ensures { λ _. ⌜ Noted 0 count (now (nodes .entry)) (now (ends .exit)) (now (nests .exit)) (now (pauses .exit)) ⌝ }
+{
+    mark(
+        nodes,
+        &mut ends[..count],
+        &mut nests[..count],
+        &mut pauses[..count],
+    );
 }
