@@ -176,6 +176,13 @@ follow-stops : {v : Capped} (w : Capped) → v ≡ none → followIn v w ≡ non
 unfolding followIn
 follow-stops w e = ap (λ (z : Capped). followIn z w) e
 
+pub ending-small : {n : ℕ} {ending : Bool} → (64 < n → ending ≡ false) → ending ≡ true → n ≤ 64
+ending-small {n} s e = go (decLe n 64)
+  where
+    go : Dec (n ≤ 64) → n ≤ 64
+    go (yes h) = h
+    go (no h) = absurd (clash e (s (omega arith)))
+
 -- `ending` says whether there is a list of which some reaction ends
 module _ {a₀ a : List ℕ} {base need n : ℕ} {v : Capped} (m : Made a₀ a base need v n) (w : Capped) {ending : Bool} (s : (n ≤ 64 → ending ≡ someEnds (rows a base n)) × (64 < n → ending ≡ false)) where
   follow-stays : n ≤ 64 → someEnds (rows a base n) ≡ false → v ≡ followIn v w
@@ -191,13 +198,6 @@ module _ {a₀ a : List ℕ} {base need n : ℕ} {v : Capped} (m : Made a₀ a b
       go (yes h) = made-as m (follow-stays h (sym (s .0 h) ∙ e))
       go (no h) = made-none m (omega arith) (follow-stops w)
 
-  pub ending-small : ending ≡ true → n ≤ 64
-  ending-small e = go (decLe n 64)
-    where
-      go : Dec (n ≤ 64) → n ≤ 64
-      go (yes h) = h
-      go (no h) = absurd (clash e (s .1 (omega arith)))
-
   follow-goes : n ≤ 64 → someEnds (rows a base n) ≡ true → joinIn (product Sequence) v w ≡ followIn v w
   unfolding followIn
   follow-goes h e =
@@ -206,7 +206,7 @@ module _ {a₀ a : List ℕ} {base need n : ℕ} {v : Capped} (m : Made a₀ a b
       ∙ sym (ap (λ (y : Capped). followIn y w) (m .listed h) ∙ g ∙ ap (λ (y : Capped). joinIn follow y w) (sym (m .listed h)))
 
   pub followed-by : (e : ending ≡ true) {b c : List ℕ} {n₂ r : ℕ} → Made a b (base + 2 * n) need w n₂ → base + 386 ≤ need → Merged (product Sequence) b c base n n₂ r → Made a₀ c base need (followIn v w) r
-  followed-by e p room x = let h = ending-small e in made-as (merged m h p (product Sequence) room x) (follow-goes h (sym (s .0 h) ∙ e))
+  followed-by e p room x = let h = ending-small (s .1) e in made-as (merged m h p (product Sequence) room x) (follow-goes h (sym (s .0 h) ∙ e))
 
 -- the same for a list that stands there
 pub standing : {a₀ a : List ℕ} {base need n : ℕ} {v : Capped} → Made a₀ a base need v n → Standing a base n

@@ -11,7 +11,6 @@ use Rattle.area.specs.declared.Change.the-variants.{Hide, Going, Caught}
 use Rattle.area.specs.declared.Pairing.the-variants.{Parallel}
 use Rattle.area.specs.Rules.{product}
 use Rattle.area.proofs.Made.{made-need}
-use Rattle.list.specs.Capped.{capped}
 use Rattle.list.specs.Notes.{partAt}
 use Rattle.list.specs.Joins.{roomFor}
 use Rattle.list.proofs.Nodes.{no-kind}
@@ -145,10 +144,10 @@ module _ (t : ℕ) where
   same-length c = returns c .same
 
   mul-top : start-lts.Need-mul-top (claims t) (start-at t) start.Post
-  mul-top c = let k = child-sequence (c .before .before .before .before .before .before .before .before .before .before .before .before .pre .1 .1) (sym (c .before .before .before .before .before .before .before .before .kind-of .ensures) ∙ c .before .before .before .before .before .before .before .match .keys8) in let m = (made-need (c .before .before .before .before .before .before .before .before .before .before .before .before .args .base + roomFor (partAt (c .before .before .before .before .before .before .before .before .before .before .before .before .args .nodes .now) (c .before .before .before .before .before .before .before .before .before .before .before .before .args .at))) (c .before .before .before .before .before .start5 .ensures) (omega (arith, k .less))) in let h = ending-small m (capped (partAt (c .before .before .before .before .before .before .before .before .before .before .before .before .args .nodes .now) (getD (c .before .before .before .before .before .before .before .before .before .before .before .before .args .ends .now) (c .before .before .before .before .before .before .before .before .before .before .before .before .args .at + 1) 0)) started (c .before .before .before .before .before .before .before .before .before .before .before .before .args .assumed)) (c .before .some-ends .ensures) (not-false _ (c .if2 .left)) in omega (arith, h)
+  mul-top c = let k = child-sequence (c .before .before .before .before .before .before .before .before .before .before .before .before .pre .1 .1) (sym (c .before .before .before .before .before .before .before .before .kind-of .ensures) ∙ c .before .before .before .before .before .before .before .match .keys8) in let m = (made-need (c .before .before .before .before .before .before .before .before .before .before .before .before .args .base + roomFor (partAt (c .before .before .before .before .before .before .before .before .before .before .before .before .args .nodes .now) (c .before .before .before .before .before .before .before .before .before .before .before .before .args .at))) (c .before .before .before .before .before .start5 .ensures) (omega (arith, k .less))) in let h = ending-small (c .before .some-ends .ensures .1) (not-false _ (c .if2 .left)) in omega (arith, h)
 
   add-top : start-lts.Need-add-top (claims t) (start-at t) start.Post
-  add-top c = let k = child-sequence (c .before .before .before .before .before .before .before .before .before .before .before .before .pre .1 .1) (sym (c .before .before .before .before .before .before .before .before .kind-of .ensures) ∙ c .before .before .before .before .before .before .before .match .keys8) in let m = (made-need (c .before .before .before .before .before .before .before .before .before .before .before .before .args .base + roomFor (partAt (c .before .before .before .before .before .before .before .before .before .before .before .before .args .nodes .now) (c .before .before .before .before .before .before .before .before .before .before .before .before .args .at))) (c .before .before .before .before .before .start5 .ensures) (omega (arith, k .less))) in let h = ending-small m (capped (partAt (c .before .before .before .before .before .before .before .before .before .before .before .before .args .nodes .now) (getD (c .before .before .before .before .before .before .before .before .before .before .before .before .args .ends .now) (c .before .before .before .before .before .before .before .before .before .before .before .before .args .at + 1) 0)) started (c .before .before .before .before .before .before .before .before .before .before .before .before .args .assumed)) (c .before .some-ends .ensures) (not-false _ (c .if2 .left)) in omega (arith, h, m .fits h, m .same)
+  add-top c = let k = child-sequence (c .before .before .before .before .before .before .before .before .before .before .before .before .pre .1 .1) (sym (c .before .before .before .before .before .before .before .before .kind-of .ensures) ∙ c .before .before .before .before .before .before .before .match .keys8) in let m = (made-need (c .before .before .before .before .before .before .before .before .before .before .before .before .args .base + roomFor (partAt (c .before .before .before .before .before .before .before .before .before .before .before .before .args .nodes .now) (c .before .before .before .before .before .before .before .before .before .before .before .before .args .at))) (c .before .before .before .before .before .start5 .ensures) (omega (arith, k .less))) in let h = ending-small (c .before .some-ends .ensures .1) (not-false _ (c .if2 .left)) in omega (arith, h, m .fits h, m .same)
 
   mul-start-2 : start-lts.Need-mul-start-2 (claims t) (start-at t) start.Post
   mul-start-2 c = omega (arith, place-few (ready-at (c .before .before .before .before .before .before .before .before .before .before .before .before .pre .1 .1) (child-sequence (c .before .before .before .before .before .before .before .before .before .before .before .before .pre .1 .1) (sym (c .before .before .before .before .before .before .before .before .kind-of .ensures) ∙ c .before .before .before .before .before .before .before .match .keys8))))
@@ -160,10 +159,10 @@ module _ (t : ℕ) where
   cast-start-2 c = omega (arith, place-few (ready-at (c .before .before .before .before .before .before .before .before .before .before .before .before .before .pre .1 .1) (child-then (c .before .before .before .before .before .before .before .before .before .before .before .before .before .pre .1 .1) (getD (c .before .before .before .before .before .before .before .before .before .before .before .before .before .args .ends .now) (c .before .before .before .before .before .before .before .before .before .before .before .before .before .args .at + 1) 0) refl (sym (c .before .before .before .before .before .before .before .before .before .kind-of .ensures) ∙ c .before .before .before .before .before .before .before .before .match .keys8))))
 
   start-requires-6 : start-lts.Need-start-requires-6 (claims t) (start-at t) start.Post
-  start-requires-6 c κs = let k = child-sequence (c .before .before .before .before .before .before .before .before .before .before .before .before .before .before .pre .1 .1) (sym (c .before .before .before .before .before .before .before .before .before .before .kind-of .ensures) ∙ c .before .before .before .before .before .before .before .before .before .match .keys8) in let m = (made-need (c .before .before .before .before .before .before .before .before .before .before .before .before .before .before .args .base + roomFor (partAt (c .before .before .before .before .before .before .before .before .before .before .before .before .before .before .args .nodes .now) (c .before .before .before .before .before .before .before .before .before .before .before .before .before .before .args .at))) (c .before .before .before .before .before .before .before .start5 .ensures) (omega (arith, k .less))) in let h = ending-small m (capped (partAt (c .before .before .before .before .before .before .before .before .before .before .before .before .before .before .args .nodes .now) (getD (c .before .before .before .before .before .before .before .before .before .before .before .before .before .before .args .ends .now) (c .before .before .before .before .before .before .before .before .before .before .before .before .before .before .args .at + 1) 0)) started (c .before .before .before .before .before .before .before .before .before .before .before .before .before .before .args .assumed)) (c .before .before .before .some-ends .ensures) (not-false _ (c .before .before .if2 .left)) in let j = child-then (c .before .before .before .before .before .before .before .before .before .before .before .before .before .before .pre .1 .1) (getD (c .before .before .before .before .before .before .before .before .before .before .before .before .before .before .args .ends .now) (c .before .before .before .before .before .before .before .before .before .before .before .before .before .before .args .at + 1) 0) refl (sym (c .before .before .before .before .before .before .before .before .before .before .kind-of .ensures) ∙ c .before .before .before .before .before .before .before .before .before .match .keys8) in (omega (arith, c .before .before .before .before .before .before .before .before .before .before .before .before .before .before .pre .0, j .less), (omega (arith, h, m .fits h, m .same), ready-at (c .before .before .before .before .before .before .before .before .before .before .before .before .before .before .pre .1 .1) j))
+  start-requires-6 c κs = let k = child-sequence (c .before .before .before .before .before .before .before .before .before .before .before .before .before .before .pre .1 .1) (sym (c .before .before .before .before .before .before .before .before .before .before .kind-of .ensures) ∙ c .before .before .before .before .before .before .before .before .before .match .keys8) in let m = (made-need (c .before .before .before .before .before .before .before .before .before .before .before .before .before .before .args .base + roomFor (partAt (c .before .before .before .before .before .before .before .before .before .before .before .before .before .before .args .nodes .now) (c .before .before .before .before .before .before .before .before .before .before .before .before .before .before .args .at))) (c .before .before .before .before .before .before .before .start5 .ensures) (omega (arith, k .less))) in let h = ending-small (c .before .before .before .some-ends .ensures .1) (not-false _ (c .before .before .if2 .left)) in let j = child-then (c .before .before .before .before .before .before .before .before .before .before .before .before .before .before .pre .1 .1) (getD (c .before .before .before .before .before .before .before .before .before .before .before .before .before .before .args .ends .now) (c .before .before .before .before .before .before .before .before .before .before .before .before .before .before .args .at + 1) 0) refl (sym (c .before .before .before .before .before .before .before .before .before .before .kind-of .ensures) ∙ c .before .before .before .before .before .before .before .before .before .match .keys8) in (omega (arith, c .before .before .before .before .before .before .before .before .before .before .before .before .before .before .pre .0, j .less), (omega (arith, h, m .fits h, m .same), ready-at (c .before .before .before .before .before .before .before .before .before .before .before .before .before .before .pre .1 .1) j))
 
   product-requires : start-lts.Need-product-requires (claims t) (start-at t) start.Post
-  product-requires c κs = let k = child-sequence (c .before .before .before .before .before .before .before .before .before .before .before .before .before .before .before .before .before .before .pre .1 .1) (sym (c .before .before .before .before .before .before .before .before .before .before .before .before .before .before .kind-of .ensures) ∙ c .before .before .before .before .before .before .before .before .before .before .before .before .before .match .keys8) in let m = (made-need (c .before .before .before .before .before .before .before .before .before .before .before .before .before .before .before .before .before .before .args .base + roomFor (partAt (c .before .before .before .before .before .before .before .before .before .before .before .before .before .before .before .before .before .before .args .nodes .now) (c .before .before .before .before .before .before .before .before .before .before .before .before .before .before .before .before .before .before .args .at))) (c .before .before .before .before .before .before .before .before .before .before .before .start5 .ensures) (omega (arith, k .less))) in let h = ending-small m (capped (partAt (c .before .before .before .before .before .before .before .before .before .before .before .before .before .before .before .before .before .before .args .nodes .now) (getD (c .before .before .before .before .before .before .before .before .before .before .before .before .before .before .before .before .before .before .args .ends .now) (c .before .before .before .before .before .before .before .before .before .before .before .before .before .before .before .before .before .before .args .at + 1) 0)) started (c .before .before .before .before .before .before .before .before .before .before .before .before .before .before .before .before .before .before .args .assumed)) (c .before .before .before .before .before .before .before .some-ends .ensures) (not-false _ (c .before .before .before .before .before .before .if2 .left)) in let j = child-then (c .before .before .before .before .before .before .before .before .before .before .before .before .before .before .before .before .before .before .pre .1 .1) (getD (c .before .before .before .before .before .before .before .before .before .before .before .before .before .before .before .before .before .before .args .ends .now) (c .before .before .before .before .before .before .before .before .before .before .before .before .before .before .before .before .before .before .args .at + 1) 0) refl (sym (c .before .before .before .before .before .before .before .before .before .before .before .before .before .before .kind-of .ensures) ∙ c .before .before .before .before .before .before .before .before .before .before .before .before .before .match .keys8) in beside m h (made-need (c .before .before .before .before .before .before .before .before .before .before .before .before .before .before .before .before .before .before .args .base + roomFor (partAt (c .before .before .before .before .before .before .before .before .before .before .before .before .before .before .before .before .before .before .args .nodes .now) (c .before .before .before .before .before .before .before .before .before .before .before .before .before .before .before .before .before .before .args .at))) (c .before .before .before .start6 .ensures) (omega (arith, j .less, h)))
+  product-requires c κs = let k = child-sequence (c .before .before .before .before .before .before .before .before .before .before .before .before .before .before .before .before .before .before .pre .1 .1) (sym (c .before .before .before .before .before .before .before .before .before .before .before .before .before .before .kind-of .ensures) ∙ c .before .before .before .before .before .before .before .before .before .before .before .before .before .match .keys8) in let m = (made-need (c .before .before .before .before .before .before .before .before .before .before .before .before .before .before .before .before .before .before .args .base + roomFor (partAt (c .before .before .before .before .before .before .before .before .before .before .before .before .before .before .before .before .before .before .args .nodes .now) (c .before .before .before .before .before .before .before .before .before .before .before .before .before .before .before .before .before .before .args .at))) (c .before .before .before .before .before .before .before .before .before .before .before .start5 .ensures) (omega (arith, k .less))) in let h = ending-small (c .before .before .before .before .before .before .before .some-ends .ensures .1) (not-false _ (c .before .before .before .before .before .before .if2 .left)) in let j = child-then (c .before .before .before .before .before .before .before .before .before .before .before .before .before .before .before .before .before .before .pre .1 .1) (getD (c .before .before .before .before .before .before .before .before .before .before .before .before .before .before .before .before .before .before .args .ends .now) (c .before .before .before .before .before .before .before .before .before .before .before .before .before .before .before .before .before .before .args .at + 1) 0) refl (sym (c .before .before .before .before .before .before .before .before .before .before .before .before .before .before .kind-of .ensures) ∙ c .before .before .before .before .before .before .before .before .before .before .before .before .before .match .keys8) in beside m h (made-need (c .before .before .before .before .before .before .before .before .before .before .before .before .before .before .before .before .before .before .args .base + roomFor (partAt (c .before .before .before .before .before .before .before .before .before .before .before .before .before .before .before .before .before .before .args .nodes .now) (c .before .before .before .before .before .before .before .before .before .before .before .before .before .before .before .before .before .before .args .at))) (c .before .before .before .start6 .ensures) (omega (arith, j .less, h)))
 
   start-requires-7 : start-lts.Need-start-requires-7 (claims t) (start-at t) start.Post
   start-requires-7 c κs = let k = child-parallel (c .before .before .before .before .before .before .pre .1 .1) (sym (c .before .before .kind-of .ensures) ∙ c .before .match .keys9) in (omega (arith, c .before .before .before .before .before .before .pre .0, k .less), ((c .before .before .before .before .before .before .pre .1 .0), ready-at (c .before .before .before .before .before .before .pre .1 .1) k))
@@ -253,7 +252,7 @@ module _ (t : ℕ) where
   same-length-9 c = returns-9 c .same
 
   returns-10 : start-lts.Need-returns-10 (claims t) (start-at t) start.Post
-  returns-10 c = let k = child-sequence (c .before .before .before .before .before .before .before .before .before .before .before .before .before .before .before .before .before .before .before .before .before .pre .1 .1) (sym (c .before .before .before .before .before .before .before .before .before .before .before .before .before .before .before .before .before .kind-of .ensures) ∙ c .before .before .before .before .before .before .before .before .before .before .before .before .before .before .before .before .match .keys8) in let m = (made-need (c .before .before .before .before .before .before .before .before .before .before .before .before .before .before .before .before .before .before .before .before .before .args .base + roomFor (partAt (c .before .before .before .before .before .before .before .before .before .before .before .before .before .before .before .before .before .before .before .before .before .args .nodes .now) (c .before .before .before .before .before .before .before .before .before .before .before .before .before .before .before .before .before .before .before .before .before .args .at))) (c .before .before .before .before .before .before .before .before .before .before .before .before .before .before .start5 .ensures) (omega (arith, k .less))) in let h = ending-small m (capped (partAt (c .before .before .before .before .before .before .before .before .before .before .before .before .before .before .before .before .before .before .before .before .before .args .nodes .now) (getD (c .before .before .before .before .before .before .before .before .before .before .before .before .before .before .before .before .before .before .before .before .before .args .ends .now) (c .before .before .before .before .before .before .before .before .before .before .before .before .before .before .before .before .before .before .before .before .before .args .at + 1) 0)) started (c .before .before .before .before .before .before .before .before .before .before .before .before .before .before .before .before .before .before .before .before .before .args .assumed)) (c .before .before .before .before .before .before .before .before .before .before .some-ends .ensures) (not-false _ (c .before .before .before .before .before .before .before .before .before .if2 .left)) in let j = child-then (c .before .before .before .before .before .before .before .before .before .before .before .before .before .before .before .before .before .before .before .before .before .pre .1 .1) (getD (c .before .before .before .before .before .before .before .before .before .before .before .before .before .before .before .before .before .before .before .before .before .args .ends .now) (c .before .before .before .before .before .before .before .before .before .before .before .before .before .before .before .before .before .before .before .before .before .args .at + 1) 0) refl (sym (c .before .before .before .before .before .before .before .before .before .before .before .before .before .before .before .before .before .kind-of .ensures) ∙ c .before .before .before .before .before .before .before .before .before .before .before .before .before .before .before .before .match .keys8) in list-sequence (c .before .before .before .before .before .before .before .before .before .before .before .before .before .before .before .before .before .before .before .before .before .pre .1 .1) (c .before .before .before .before .before .before .before .before .before .before .before .before .before .before .before .before .before .before .before .before .before .args .assumed) (getD (c .before .before .before .before .before .before .before .before .before .before .before .before .before .before .before .before .before .before .before .before .before .args .ends .now) (c .before .before .before .before .before .before .before .before .before .before .before .before .before .before .before .before .before .before .before .before .before .args .at + 1) 0) refl (sym (c .before .before .before .before .before .before .before .before .before .before .before .before .before .before .before .before .before .kind-of .ensures) ∙ c .before .before .before .before .before .before .before .before .before .before .before .before .before .before .before .before .match .keys8) (followed-by m _ (c .before .before .before .before .before .before .before .before .before .before .some-ends .ensures) (not-false _ (c .before .before .before .before .before .before .before .before .before .if2 .left)) (made-need (c .before .before .before .before .before .before .before .before .before .before .before .before .before .before .before .before .before .before .before .before .before .args .base + roomFor (partAt (c .before .before .before .before .before .before .before .before .before .before .before .before .before .before .before .before .before .before .before .before .before .args .nodes .now) (c .before .before .before .before .before .before .before .before .before .before .before .before .before .before .before .before .before .before .before .before .before .args .at))) (c .before .before .before .before .before .before .start6 .ensures) (omega (arith, j .less, h))) (omega (arith, k .less)) (c .before .before .product .ensures))
+  returns-10 c = let k = child-sequence (c .before .before .before .before .before .before .before .before .before .before .before .before .before .before .before .before .before .before .before .before .before .pre .1 .1) (sym (c .before .before .before .before .before .before .before .before .before .before .before .before .before .before .before .before .before .kind-of .ensures) ∙ c .before .before .before .before .before .before .before .before .before .before .before .before .before .before .before .before .match .keys8) in let m = (made-need (c .before .before .before .before .before .before .before .before .before .before .before .before .before .before .before .before .before .before .before .before .before .args .base + roomFor (partAt (c .before .before .before .before .before .before .before .before .before .before .before .before .before .before .before .before .before .before .before .before .before .args .nodes .now) (c .before .before .before .before .before .before .before .before .before .before .before .before .before .before .before .before .before .before .before .before .before .args .at))) (c .before .before .before .before .before .before .before .before .before .before .before .before .before .before .start5 .ensures) (omega (arith, k .less))) in let h = ending-small (c .before .before .before .before .before .before .before .before .before .before .some-ends .ensures .1) (not-false _ (c .before .before .before .before .before .before .before .before .before .if2 .left)) in let j = child-then (c .before .before .before .before .before .before .before .before .before .before .before .before .before .before .before .before .before .before .before .before .before .pre .1 .1) (getD (c .before .before .before .before .before .before .before .before .before .before .before .before .before .before .before .before .before .before .before .before .before .args .ends .now) (c .before .before .before .before .before .before .before .before .before .before .before .before .before .before .before .before .before .before .before .before .before .args .at + 1) 0) refl (sym (c .before .before .before .before .before .before .before .before .before .before .before .before .before .before .before .before .before .kind-of .ensures) ∙ c .before .before .before .before .before .before .before .before .before .before .before .before .before .before .before .before .match .keys8) in list-sequence (c .before .before .before .before .before .before .before .before .before .before .before .before .before .before .before .before .before .before .before .before .before .pre .1 .1) (c .before .before .before .before .before .before .before .before .before .before .before .before .before .before .before .before .before .before .before .before .before .args .assumed) (getD (c .before .before .before .before .before .before .before .before .before .before .before .before .before .before .before .before .before .before .before .before .before .args .ends .now) (c .before .before .before .before .before .before .before .before .before .before .before .before .before .before .before .before .before .before .before .before .before .args .at + 1) 0) refl (sym (c .before .before .before .before .before .before .before .before .before .before .before .before .before .before .before .before .before .kind-of .ensures) ∙ c .before .before .before .before .before .before .before .before .before .before .before .before .before .before .before .before .match .keys8) (followed-by m _ (c .before .before .before .before .before .before .before .before .before .before .some-ends .ensures) (not-false _ (c .before .before .before .before .before .before .before .before .before .if2 .left)) (made-need (c .before .before .before .before .before .before .before .before .before .before .before .before .before .before .before .before .before .before .before .before .before .args .base + roomFor (partAt (c .before .before .before .before .before .before .before .before .before .before .before .before .before .before .before .before .before .before .before .before .before .args .nodes .now) (c .before .before .before .before .before .before .before .before .before .before .before .before .before .before .before .before .before .before .before .before .before .args .at))) (c .before .before .before .before .before .before .start6 .ensures) (omega (arith, j .less, h))) (omega (arith, k .less)) (c .before .before .product .ensures))
 
   same-length-10 : start-lts.Need-same-length-10 (claims t) (start-at t) start.Post
   same-length-10 c = returns-10 c .same
