@@ -45,6 +45,9 @@ no-notes n xs ends nests labels e f g = record {
   right-labels = λ at h w. absurd (let b = before-end w in omega arith);
 }
 
+pub noted-as : {i j n m : ℕ} {xs ends nests labels : List ℕ} → i ≡ j → n ≡ m → Noted i n xs ends nests labels → Noted j m xs ends nests labels
+noted-as {i} {j} {n} {m} {xs} {ends} {nests} {labels} e f c = subst (λ (z : ℕ). Noted z m xs ends nests labels) e (subst (λ (z : ℕ). Noted i z xs ends nests labels) f c)
+
 -- the notes stand in front of more room
 in-front : (n : ℕ) (xs front back : List ℕ) (P : ℕ → ℕ) → n ≤ length front → ((at : ℕ) → 0 ≤ at → Whole n xs at → getD front at 0 ≡ P at) → (at : ℕ) → 0 ≤ at → Whole n xs at → getD (front ++ back) at 0 ≡ P at
 in-front n xs front back P l f at h w = List·getD-append front back 0 at (let b = before-end w in omega arith) ∙ f at h w

@@ -1,50 +1,45 @@
+-- The invariant: the notes are right from the place on.
+use native.Mathlib.Omega.{arith}
+use Prim.Native.Nat.{_≤_}
+use mathlib.Core.Path.{_≡_, refl, sym, _∙_}
+use lib.ListN.{length}
+use Rattle.list.specs.Notes.{Noted}
+use Rattle.list.proofs.Marks.{no-notes, noted-as}
 use Rattle.list.proofs.marking.mark.Statement.{statement}
 use Rattle.list.proofs.marking.mark.Tie as tie
-use Rattle.list.proofs.marking.mark.Reads as reads
-use Rattle.list.proofs.marking.mark.Lts as lts
-use Rattle.list.proofs.marking.mark_at.Reads as mark-at-reads
 
 abbrev Inv-loop : tie.InvT-loop
-Inv-loop nodes ends₀ nests₀ pauses₀ at₀ ends nests pauses at = ?
+Inv-loop nodes ends₀ nests₀ pauses₀ at₀ ends nests pauses at = (at ≤ length ends₀) × (length ends ≡ length ends₀) × (length nests ≡ length nests₀) × (length pauses ≡ length pauses₀) × Noted at (length ends₀) nodes ends nests pauses
 
 abbrev μ-loop : tie.MeasureT-loop
-μ-loop nodes ends₀ nests₀ pauses₀ at₀ ends nests pauses at = ?
+μ-loop nodes ends₀ nests₀ pauses₀ at₀ ends nests pauses at = at
 
--- src/marking.rt:142:5
 loop-holds : tie.Need-loop-holds Inv-loop μ-loop
-loop-holds c = ?
+loop-holds c = (omega arith, refl, refl, refl, no-notes _ (c .before .before .before .args .nodes .now) _ _ _ (omega arith) (omega (arith, c .before .before .before .pre .1)) (omega (arith, c .before .before .before .pre .2)))
 
--- src/marking.rt:143:9
 sub-at : tie.Need-sub-at Inv-loop μ-loop
-sub-at c = ?
+sub-at c = omega arith
 
--- src/marking.rt:144:9
 mark-at-requires : tie.Need-mark-at-requires Inv-loop μ-loop
-mark-at-requires c κs = ?
+mark-at-requires c κs = let v = c .before .before .before .before .loop .inv in (omega (arith, v .0, v .1), omega (arith, v .1, c .before .before .before .before .before .before .before .before .pre .0), noted-as (omega arith) (sym (v .1)) (v .4))
 
--- src/marking.rt:142:5
 loop-less : tie.Need-loop-less Inv-loop μ-loop
-loop-less c = ?
+loop-less c = omega arith
 
--- src/marking.rt:142:5
 loop-again : tie.Need-loop-again Inv-loop μ-loop
-loop-again c = ?
+loop-again c = let v = c .before .before .before .before .before .before .before .before .before .before .before .loop .inv in let k = c .before .before .before .before .before .before .mark-at .kept in (omega arith, k .1 .0 ∙ v .1, k .1 .1 .0 ∙ v .2, k .1 .1 .1 .0 ∙ v .3, noted-as refl (v .1) (c .before .before .before .before .before .before .mark-at .ensures))
 
--- src/marking.rt:137:1
 same-length : tie.Need-same-length Inv-loop μ-loop
-same-length c = ?
+same-length c = c .before .loop .inv .1
 
--- src/marking.rt:137:1
 same-length-2 : tie.Need-same-length-2 Inv-loop μ-loop
-same-length-2 c = ?
+same-length-2 c = c .before .loop .inv .2
 
--- src/marking.rt:137:1
 same-length-3 : tie.Need-same-length-3 Inv-loop μ-loop
-same-length-3 c = ?
+same-length-3 c = c .before .loop .inv .3
 
--- src/marking.rt:137:1
 returns : tie.Need-returns Inv-loop μ-loop
-returns c = ?
+returns c = noted-as (omega arith) refl (c .before .loop .inv .4)
 
 pub mark-spec : {M : Type 1} → statement M
 mark-spec =

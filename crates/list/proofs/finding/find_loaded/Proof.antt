@@ -1,0 +1,46 @@
+-- By the answer of check; on an accepted table the nodes in front hold its statement.
+use Rattle.list.proofs.Limits.{finds-refused, loaded-sound, finds-accepted}
+use borrow.Author.Needs.{needs}
+use Rattle.list.proofs.finding.find_loaded.Statement.{statement}
+use Rattle.list.proofs.finding.find_loaded.Tie as tie
+
+load-requires : tie.Need-load-requires
+load-requires c κs = search needs
+
+enum-known-checked : tie.Need-enum-known-checked
+enum-known-checked c = search needs
+
+enum-told : tie.Need-enum-told
+enum-told c = search needs
+
+refusal-requires : tie.Need-refusal-requires
+refusal-requires c κs = search needs
+
+returns : tie.Need-returns
+returns c = finds-refused (c .before .before .before .before .before .before .before .args .table .now) (c .before .before .before .before .before .before .before .args .nodes .now) _ (c .before .before .before .load .result) (c .before .before .before .load .ensures) (c .before .before .before .before .before .before .before .args .assumed) (c .before .before .before .before .before .before .before .args .mark) (c .before .before .before .before .before .before .before .args .labels) _ _ (c .before .before .before .before .before .before .before .args .area .now) (c .before .enum-told .given .1) (c .refusal .ensures)
+
+cast-find-nodes : tie.Need-cast-find-nodes
+cast-find-nodes c = search needs
+
+find-nodes-requires : tie.Need-find-nodes-requires
+find-nodes-requires c κs = (loaded-sound (c .before .before .before .before .before .before .before .before .before .args .table .now) (c .before .before .before .before .before .before .before .before .before .args .nodes .now) _ (c .before .before .before .before .before .load .result) (c .before .before .before .before .before .load .ensures) (c .before .before .before .checked .given .0 .0) (c .before .before .before .checked .given .1), c .before .before .before .before .before .before .before .before .before .pre)
+
+same-length : tie.Need-same-length
+same-length c = search needs
+
+returns-2 : tie.Need-returns-2
+returns-2 c = finds-accepted (c .before .before .before .before .before .before .before .before .before .before .before .before .args .table .now) (c .before .before .before .before .before .before .before .before .before .before .before .before .args .nodes .now) _ (c .before .before .before .before .before .before .before .before .load .result) (c .before .before .before .before .before .before .before .before .load .ensures) (c .before .before .before .before .before .before .checked .given .0 .0) (c .before .before .before .before .before .before .checked .given .1) (c .before .before .before .before .before .before .before .before .before .before .before .before .args .assumed) (c .before .before .before .before .before .before .before .before .before .before .before .before .args .mark) (c .before .before .before .before .before .before .before .before .before .before .before .before .args .labels) (c .before .before .find-nodes .ensures)
+
+pub find-loaded-spec : {M : Type 1} → statement M
+find-loaded-spec =
+    tie.close
+    (tie.spec
+    load-requires
+    enum-known-checked
+    enum-told
+    refusal-requires
+    returns
+    cast-find-nodes
+    find-nodes-requires
+    same-length
+    returns-2)

@@ -1,0 +1,24 @@
+-- The large area is never too small.
+use Rattle.list.proofs.Findings.{made-copied}
+use borrow.Author.Needs.{needs}
+use Rattle.list.proofs.finding.reactions_through.Statement.{statement}
+use Rattle.list.proofs.finding.reactions_through.Tie as tie
+
+reactions-requires : tie.Need-reactions-requires
+reactions-requires c κs = search needs
+
+copy-requires : tie.Need-copy-requires
+copy-requires c κs = search needs
+
+same-length : tie.Need-same-length
+same-length c = search needs
+
+same-length-2 : tie.Need-same-length-2
+same-length-2 c = search needs
+
+returns : tie.Need-returns
+returns c = made-copied (c .before .before .before .before .before .before .before .reactions .ensures) (c .before .before .before .before .before .before .before .before .before .before .before .pre .1) (c .before .before .before .before .before .before .before .before .before .before .before .pre .0) (c .before .before .copy .ensures)
+
+pub reactions-through-spec : {M : Type 1} → statement M
+reactions-through-spec =
+    tie.close (tie.spec reactions-requires copy-requires same-length same-length-2 returns)
