@@ -144,10 +144,20 @@ pub fn find_nodes(
     requires { ⌜ Sound (now nodes) count × (128 ≤ length (now area)) ⌝ }
     ensures { λ r. ⌜ Finds (reactionsOf (statementAt 60 (now (nodes .entry)) 0 .statement) (stateOf mark labels) assumed) r (now (area .entry)) (now (area .exit)) ⌝ }
 {
-    let mut e = [0u16; 1024];
-    let mut n = [0u8; 1024];
-    let mut p = [0u64; 1024];
-    find_marked(nodes, count, assumed, mark, labels, area, &mut e, &mut n, &mut p)
+    let mut ends = [0u16; 1024];
+    let mut nests = [0u8; 1024];
+    let mut pauses = [0u64; 1024];
+    find_marked(
+        nodes,
+        count,
+        assumed,
+        mark,
+        labels,
+        area,
+        &mut ends,
+        &mut nests,
+        &mut pauses,
+    )
 }
 
 // The reactions of a table, with room lent for its nodes.
