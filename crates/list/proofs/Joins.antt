@@ -1,6 +1,7 @@
 -- Lists that lie one above the other in an area: what is made of them is what the capped listing makes of its parts. Over 64
 -- reactions, or too small an area, in a part is so of the whole.
 use mathlib.Core.Path.{_≡_, refl, sym, ap, ap₂, _∙_, subst}
+use mathlib.Core.Logic.{_⊎_, inl, inr}
 use mathlib.Core.Bool.{Bool, true, false, cond}
 use mathlib.Core.List.{List, [], _∷_, _++_}
 use mathlib.Core.Option.{Option, none, some}
@@ -19,7 +20,7 @@ use Rattle.area.specs.Area.{rows, collect, Low, Made, Altered, Beside, Merged}
 use Rattle.area.proofs.Rows.{rows-agree}
 use Rattle.area.proofs.Made.{made-as, made-need, made-there}
 use Rattle.list.specs.Capped.{Capped, changeIn, joinIn, followIn}
-use Rattle.list.specs.Joins.{Joined, Standing, Followed}
+use Rattle.list.specs.Joins.{Above, Joined, Standing, Followed}
 
 -- what was made after something else
 pub made-after : {a₀ a b : List ℕ} {base need more n r : ℕ} {v w : Capped} → Made a₀ a base need v n → Made a b base more w r → more ≤ need → Made a₀ b base need w r
@@ -113,29 +114,45 @@ join-stops : (g : List Reaction → List Reaction → List Reaction) {v : Capped
 unfolding joinIn
 join-stops g w e = ap (λ (z : Capped). joinIn g z w) e
 
--- the same where w was made above v, or at the end of the area where v is none
-module _ {a₀ a : List ℕ} {base need n₁ top : ℕ} {v : Capped} (m : Made a₀ a base need v n₁) (t : (n₁ ≤ 64 → top ≡ base + 2 * n₁) × (64 < n₁ → top ≡ length a)) where
-  pub top-within : top ≤ length a
-  top-within = go (decLe n₁ 64)
-    where
-      go : Dec (n₁ ≤ 64) → top ≤ length a
-      go (yes h) = let e = t .0 h in let f = m .fits h in let s = m .same in omega arith
-      go (no h) = let e = t .1 (omega arith) in omega arith
+-- what was made at the end of the area has no reaction, and can be thought of as lower down
+no-rows : (a : List ℕ) (q p n : ℕ) → n ≡ 0 → rows a q n ≡ rows a p n
+unfolding rows
+no-rows a q p n e = ap (rows a q) e ∙ sym (ap (rows a p) e)
 
+made-end : {a b : List ℕ} {top more need n : ℕ} {w : Capped} (q : ℕ) → Made a b top more w n → length a ≤ top → q ≤ length a → length a < need → Made a b q need w n
+made-end {a} {b} {top} {more} {need} {n} q p e f g = record {
+  same = p .same;
+  low = λ i k. p .low i (omega arith);
+  fits = λ k. let z = none k in omega arith;
+  listed = λ k. p .listed k ∙ ap some (no-rows b top q n (none k));
+  rising = λ k. subst Rising (no-rows b top q n (none k)) (p .rising k);
+  over = p .over;
+  cramped = λ k. g;
+}
+  where
+    none : n ≤ 64 → n ≡ 0
+    none k = let z = p .fits k in omega arith
+
+-- the same where w was made at the top that stands above v
+module _ {a₀ a : List ℕ} {base need n₁ top : ℕ} {v : Capped} (m : Made a₀ a base need v n₁) (t : Above a base n₁ top) (room : base + 386 ≤ need) where
   above-first : {b : List ℕ} {more n₂ : ℕ} {w : Capped} → n₁ ≤ 64 → Made a b top more w n₂ → (n₁ ≤ 64 → top ≡ base + 2 * n₁ → more ≤ need) → Made a b (base + 2 * n₁) need w n₂
-  above-first {b} {more} {n₂} {w} h p k = subst (λ (z : ℕ). Made a b z need w n₂) (t .0 h) (made-need need p (k h (t .0 h)))
+  above-first {b} {more} {n₂} {w} h p k = go (t .small h)
+    where
+      go : (top ≡ base + 2 * n₁) ⊎ (length a ≤ top) × (length a < base + 2 * n₁ + 2) → Made a b (base + 2 * n₁) need w n₂
+      go (inl e) = subst (λ (z : ℕ). Made a b z need w n₂) e (made-need need p (k h e))
+      go (inr (e, f)) = made-end (base + 2 * n₁) p e (let z = m .fits h in let s = m .same in omega arith) (omega arith)
 
   pub beside-top : {b : List ℕ} {more n₂ : ℕ} {w : Capped} → Made a b top more w n₂ → (n₁ ≤ 64 → top ≡ base + 2 * n₁ → more ≤ need) → n₁ ≤ 64 → Beside b base n₁ n₂
   beside-top p k h = beside m h (above-first h p k)
 
   pub joined : (g : List Reaction → List Reaction → List Reaction) {b c : List ℕ} {more n₂ r : ℕ} {w : Capped} → Made a b top more w n₂ → (n₁ ≤ 64 → top ≡ base + 2 * n₁ → more ≤ need)
-      → base ≤ length a₀ → base + 386 ≤ need → Joined g b c base n₁ n₂ r → Made a₀ c base need (joinIn g v w) r
-  joined g {b} {c} {more} {n₂} {r} {w} p k l room x = go (decLe n₁ 64)
+      → base ≤ length a₀ → Joined g b c base n₁ n₂ r → Made a₀ c base need (joinIn g v w) r
+  joined g {b} {c} {more} {n₂} {r} {w} p k l x = go (decLe n₁ 64)
     where
       none-made : 64 < n₁ → Made a₀ b base need (joinIn g v w) n₁
       none-made h = record {
         same = p .same ∙ m .same;
-        low = λ i q. p .low i (let e = t .1 h in let s = m .same in omega arith) ∙ m .low i q;
+        low = λ i q. p .low i (let e = t .large h in let s = m .same in omega arith) ∙ m .low i q;
         fits = λ q. absurd (omega arith);
         listed = λ q. absurd (omega arith);
         rising = λ q. absurd (omega arith);

@@ -22,7 +22,7 @@ ghost use Rattle.area.specs.Rules.{change, product};
 ghost use Rattle.area.specs.Area.{packed, rows, Made, Beside};
 ghost use Rattle.list.specs.Capped.{changeIn, capped};
 ghost use Rattle.list.specs.Notes.{partAt, Ready, Resumable};
-ghost use Rattle.list.specs.Joins.{roomFor, Joined, Standing, Followed};
+ghost use Rattle.list.specs.Joins.{roomFor, Above, Joined, Standing, Followed};
 
 // The set with one number more.
 fn with_number(set: u64, number: u8) -> u64
@@ -62,16 +62,16 @@ fn emitted(area: &mut [u64], base: usize, assumed: u64, signal: u8) -> usize
     alone(area, base, sets::singleton(signal) * 256, 0)
 }
 
-// Where the next list stands: above the n reactions at base; where n says that there is no list, at the end of the area, so
-// that nothing is written.
+// Where the next list stands: above the n reactions at base; at the end of the area, where nothing can be written, if n says
+// that there is no list, or if there is no room above it.
 fn above(area: &[u64], base: usize, n: usize) -> usize
-    requires { ⌜ (n ≤ 64 → base + 2 * n ≤ length (now area)) ⌝ }
-    ensures { λ r. ⌜ (n ≤ 64 → r ≡ base + 2 * n) × (64 < n → r ≡ length (now (area .entry))) ⌝ }
+    requires { ⌜ (base ≤ length (now area)) × (n ≤ 64 → base + 2 * n ≤ length (now area)) ⌝ }
+    ensures { λ r. ⌜ Above (now (area .entry)) base n r ⌝ }
 {
-    if 64 < n {
-        return area.len();
+    if area::room(area, base, n) {
+        return base + 2 * n;
     }
-    base + 2 * n
+    area.len()
 }
 
 // The n1 reactions at base and the n2 above them as one list; n1 itself where it says that there is none.

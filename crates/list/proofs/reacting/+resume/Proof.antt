@@ -13,7 +13,7 @@ use Rattle.area.proofs.Made.{made-need}
 use Rattle.list.specs.Notes.{partAt}
 use Rattle.list.specs.Joins.{roomFor}
 use Rattle.list.proofs.Nodes.{no-kind}
-use Rattle.list.proofs.Joins.{altered, top-within, beside-top, joined, standing, followed}
+use Rattle.list.proofs.Joins.{altered, beside-top, joined, standing, followed}
 use Rattle.list.proofs.Starts.{place-few, ready-at, child-signal, child-present, child-else, child-sequence, child-then, child-parallel, child-beside, child-loop, child-try, list-signal, list-try}
 use Rattle.list.proofs.Resumes.{resumable-at, meets, meets-not, resumed-quiet, resumed-nothing, resumed-pause, resumed-gotopause, resumed-emit, resumed-exit, resumed-unused, resumed-present, resumed-sequence, resumed-right, resumed-left, resumed-both, resumed-loop}
 use Prim.Native.Nat.{ℕ, _+_, _<_}
@@ -86,16 +86,16 @@ module _ (t : ℕ) where
   alter-requires c κs = λ h. omega (arith, c .before .before .before .resume .ensures .fits h, c .before .before .before .resume .ensures .same)
 
   above-requires : resume-lts.Need-above-requires (claims t) (resume-at t) resume.Post
-  above-requires c κs = let k = child-signal (c .before .before .before .before .before .before .before .before .before .before .before .before .before .before .before .before .before .pre .1 .1 .ready) (sym (c .before .before .before .before .before .before .before .before .before .before .before .kind-of .ensures) ∙ c .before .before .before .before .before .before .before .before .before .before .match .keys6) in let m = altered (Hide (c .before .before .before .before .before .before .before .before .before .before .before .before .operand-of .result)) (made-need (c .before .before .before .before .before .before .before .before .before .before .before .before .before .before .before .before .before .args .base + roomFor (partAt (c .before .before .before .before .before .before .before .before .before .before .before .before .before .before .before .before .before .args .nodes .now) (c .before .before .before .before .before .before .before .before .before .before .before .before .before .before .before .before .before .args .at))) (c .before .before .before .before .before .before .before .resume .ensures) (omega (arith, k .less))) (c .before .before .before .alter .ensures) in λ h. omega (arith, m .fits h, m .same)
+  above-requires c κs = let k = child-signal (c .before .before .before .before .before .before .before .before .before .before .before .before .before .before .before .before .before .pre .1 .1 .ready) (sym (c .before .before .before .before .before .before .before .before .before .before .before .kind-of .ensures) ∙ c .before .before .before .before .before .before .before .before .before .before .match .keys6) in let m = altered (Hide (c .before .before .before .before .before .before .before .before .before .before .before .before .operand-of .result)) (made-need (c .before .before .before .before .before .before .before .before .before .before .before .before .before .before .before .before .before .args .base + roomFor (partAt (c .before .before .before .before .before .before .before .before .before .before .before .before .before .before .before .before .before .args .nodes .now) (c .before .before .before .before .before .before .before .before .before .before .before .before .before .before .before .before .before .args .at))) (c .before .before .before .before .before .before .before .resume .ensures) (omega (arith, k .less))) (c .before .before .before .alter .ensures) in (omega (arith, (c .before .before .before .before .before .before .before .before .before .before .before .before .before .before .before .before .before .pre .1 .0), m .same), λ h. omega (arith, m .fits h, m .same))
 
   without-requires : resume-lts.Need-without-requires (claims t) (resume-at t) resume.Post
   without-requires c κs = tt
 
   resume-requires-2 : resume-lts.Need-resume-requires-2 (claims t) (resume-at t) resume.Post
-  resume-requires-2 c κs = let k = child-signal (c .before .before .before .before .before .before .before .before .before .before .before .before .before .before .before .before .before .before .before .before .pre .1 .1 .ready) (sym (c .before .before .before .before .before .before .before .before .before .before .before .before .before .before .kind-of .ensures) ∙ c .before .before .before .before .before .before .before .before .before .before .before .before .before .match .keys6) in let m = altered (Hide (c .before .before .before .before .before .before .before .before .before .before .before .before .before .before .before .operand-of .result)) (made-need (c .before .before .before .before .before .before .before .before .before .before .before .before .before .before .before .before .before .before .before .before .args .base + roomFor (partAt (c .before .before .before .before .before .before .before .before .before .before .before .before .before .before .before .before .before .before .before .before .args .nodes .now) (c .before .before .before .before .before .before .before .before .before .before .before .before .before .before .before .before .before .before .before .before .args .at))) (c .before .before .before .before .before .before .before .before .before .before .resume .ensures) (omega (arith, k .less))) (c .before .before .before .before .before .before .alter .ensures) in (omega (arith, c .before .before .before .before .before .before .before .before .before .before .before .before .before .before .before .before .before .before .before .before .pre .0, k .less), (top-within m (c .before .before .above .ensures), resumable-at (c .before .before .before .before .before .before .before .before .before .before .before .before .before .before .before .before .before .before .before .before .pre .1 .1) k))
+  resume-requires-2 c κs = let k = child-signal (c .before .before .before .before .before .before .before .before .before .before .before .before .before .before .before .before .before .before .before .before .pre .1 .1 .ready) (sym (c .before .before .before .before .before .before .before .before .before .before .before .before .before .before .kind-of .ensures) ∙ c .before .before .before .before .before .before .before .before .before .before .before .before .before .match .keys6) in let m = altered (Hide (c .before .before .before .before .before .before .before .before .before .before .before .before .before .before .before .operand-of .result)) (made-need (c .before .before .before .before .before .before .before .before .before .before .before .before .before .before .before .before .before .before .before .before .args .base + roomFor (partAt (c .before .before .before .before .before .before .before .before .before .before .before .before .before .before .before .before .before .before .before .before .args .nodes .now) (c .before .before .before .before .before .before .before .before .before .before .before .before .before .before .before .before .before .before .before .before .args .at))) (c .before .before .before .before .before .before .before .before .before .before .resume .ensures) (omega (arith, k .less))) (c .before .before .before .before .before .before .alter .ensures) in (omega (arith, c .before .before .before .before .before .before .before .before .before .before .before .before .before .before .before .before .before .before .before .before .pre .0, k .less), (c .before .before .above .ensures .within, resumable-at (c .before .before .before .before .before .before .before .before .before .before .before .before .before .before .before .before .before .before .before .before .pre .1 .1) k))
 
   either-requires : resume-lts.Need-either-requires (claims t) (resume-at t) resume.Post
-  either-requires c κs = let k = child-signal (c .before .before .before .before .before .before .before .before .before .before .before .before .before .before .before .before .before .before .before .before .before .before .before .before .pre .1 .1 .ready) (sym (c .before .before .before .before .before .before .before .before .before .before .before .before .before .before .before .before .before .before .kind-of .ensures) ∙ c .before .before .before .before .before .before .before .before .before .before .before .before .before .before .before .before .before .match .keys6) in let m = altered (Hide (c .before .before .before .before .before .before .before .before .before .before .before .before .before .before .before .before .before .before .before .operand-of .result)) (made-need (c .before .before .before .before .before .before .before .before .before .before .before .before .before .before .before .before .before .before .before .before .before .before .before .before .args .base + roomFor (partAt (c .before .before .before .before .before .before .before .before .before .before .before .before .before .before .before .before .before .before .before .before .before .before .before .before .args .nodes .now) (c .before .before .before .before .before .before .before .before .before .before .before .before .before .before .before .before .before .before .before .before .before .before .before .before .args .at))) (c .before .before .before .before .before .before .before .before .before .before .before .before .before .before .resume .ensures) (omega (arith, k .less))) (c .before .before .before .before .before .before .before .before .before .before .alter .ensures) in beside-top m (c .before .before .before .before .before .before .above .ensures) (c .before .before .before .resume2 .ensures) (λ h e. omega (arith, k .less))
+  either-requires c κs = let k = child-signal (c .before .before .before .before .before .before .before .before .before .before .before .before .before .before .before .before .before .before .before .before .before .before .before .before .pre .1 .1 .ready) (sym (c .before .before .before .before .before .before .before .before .before .before .before .before .before .before .before .before .before .before .kind-of .ensures) ∙ c .before .before .before .before .before .before .before .before .before .before .before .before .before .before .before .before .before .match .keys6) in let m = altered (Hide (c .before .before .before .before .before .before .before .before .before .before .before .before .before .before .before .before .before .before .before .operand-of .result)) (made-need (c .before .before .before .before .before .before .before .before .before .before .before .before .before .before .before .before .before .before .before .before .before .before .before .before .args .base + roomFor (partAt (c .before .before .before .before .before .before .before .before .before .before .before .before .before .before .before .before .before .before .before .before .before .before .before .before .args .nodes .now) (c .before .before .before .before .before .before .before .before .before .before .before .before .before .before .before .before .before .before .before .before .before .before .before .before .args .at))) (c .before .before .before .before .before .before .before .before .before .before .before .before .before .before .resume .ensures) (omega (arith, k .less))) (c .before .before .before .before .before .before .before .before .before .before .alter .ensures) in beside-top m (c .before .before .before .before .before .before .above .ensures) (omega (arith, k .less)) (c .before .before .before .resume2 .ensures) (λ h e. omega (arith, k .less))
 
   mul-second : resume-lts.Need-mul-second (claims t) (resume-at t) resume.Post
   mul-second c = omega (arith, place-few (ready-at (c .before .before .before .before .before .before .before .pre .1 .1 .ready) (child-present (c .before .before .before .before .before .before .before .pre .1 .1 .ready) (sym (c .before .kind-of .ensures) ∙ c .match .keys7))))
@@ -110,13 +110,13 @@ module _ (t : ℕ) where
   resume-requires-3 c κs = let k = child-present (c .before .before .before .before .before .before .before .before .before .pre .1 .1 .ready) (sym (c .before .before .before .kind-of .ensures) ∙ c .before .before .match .keys7) in (omega (arith, c .before .before .before .before .before .before .before .before .before .pre .0, k .less), ((c .before .before .before .before .before .before .before .before .before .pre .1 .0), resumable-at (c .before .before .before .before .before .before .before .before .before .pre .1 .1) k))
 
   above-requires-2 : resume-lts.Need-above-requires-2 (claims t) (resume-at t) resume.Post
-  above-requires-2 c κs = let k = child-present (c .before .before .before .before .before .before .before .before .before .before .before .before .before .pre .1 .1 .ready) (sym (c .before .before .before .before .before .before .before .kind-of .ensures) ∙ c .before .before .before .before .before .before .match .keys7) in let m = (made-need (c .before .before .before .before .before .before .before .before .before .before .before .before .before .args .base + roomFor (partAt (c .before .before .before .before .before .before .before .before .before .before .before .before .before .args .nodes .now) (c .before .before .before .before .before .before .before .before .before .before .before .before .before .args .at))) (c .before .before .before .resume3 .ensures) (omega (arith, k .less))) in λ h. omega (arith, m .fits h, m .same)
+  above-requires-2 c κs = let k = child-present (c .before .before .before .before .before .before .before .before .before .before .before .before .before .pre .1 .1 .ready) (sym (c .before .before .before .before .before .before .before .kind-of .ensures) ∙ c .before .before .before .before .before .before .match .keys7) in let m = (made-need (c .before .before .before .before .before .before .before .before .before .before .before .before .before .args .base + roomFor (partAt (c .before .before .before .before .before .before .before .before .before .before .before .before .before .args .nodes .now) (c .before .before .before .before .before .before .before .before .before .before .before .before .before .args .at))) (c .before .before .before .resume3 .ensures) (omega (arith, k .less))) in (omega (arith, (c .before .before .before .before .before .before .before .before .before .before .before .before .before .pre .1 .0), m .same), λ h. omega (arith, m .fits h, m .same))
 
   resume-requires-4 : resume-lts.Need-resume-requires-4 (claims t) (resume-at t) resume.Post
-  resume-requires-4 c κs = let k = child-present (c .before .before .before .before .before .before .before .before .before .before .before .before .before .before .before .pre .1 .1 .ready) (sym (c .before .before .before .before .before .before .before .before .before .kind-of .ensures) ∙ c .before .before .before .before .before .before .before .before .match .keys7) in let m = (made-need (c .before .before .before .before .before .before .before .before .before .before .before .before .before .before .before .args .base + roomFor (partAt (c .before .before .before .before .before .before .before .before .before .before .before .before .before .before .before .args .nodes .now) (c .before .before .before .before .before .before .before .before .before .before .before .before .before .before .before .args .at))) (c .before .before .before .before .before .resume3 .ensures) (omega (arith, k .less))) in let j = child-else (c .before .before .before .before .before .before .before .before .before .before .before .before .before .before .before .pre .1 .1 .ready) (getD (c .before .before .before .before .before .before .before .before .before .before .before .before .before .before .before .args .ends .now) (c .before .before .before .before .before .before .before .before .before .before .before .before .before .before .before .args .at + 1) 0) refl (sym (c .before .before .before .before .before .before .before .before .before .kind-of .ensures) ∙ c .before .before .before .before .before .before .before .before .match .keys7) in (omega (arith, c .before .before .before .before .before .before .before .before .before .before .before .before .before .before .before .pre .0, j .less), (top-within m (c .before .above2 .ensures), resumable-at (c .before .before .before .before .before .before .before .before .before .before .before .before .before .before .before .pre .1 .1) j))
+  resume-requires-4 c κs = let k = child-present (c .before .before .before .before .before .before .before .before .before .before .before .before .before .before .before .pre .1 .1 .ready) (sym (c .before .before .before .before .before .before .before .before .before .kind-of .ensures) ∙ c .before .before .before .before .before .before .before .before .match .keys7) in let m = (made-need (c .before .before .before .before .before .before .before .before .before .before .before .before .before .before .before .args .base + roomFor (partAt (c .before .before .before .before .before .before .before .before .before .before .before .before .before .before .before .args .nodes .now) (c .before .before .before .before .before .before .before .before .before .before .before .before .before .before .before .args .at))) (c .before .before .before .before .before .resume3 .ensures) (omega (arith, k .less))) in let j = child-else (c .before .before .before .before .before .before .before .before .before .before .before .before .before .before .before .pre .1 .1 .ready) (getD (c .before .before .before .before .before .before .before .before .before .before .before .before .before .before .before .args .ends .now) (c .before .before .before .before .before .before .before .before .before .before .before .before .before .before .before .args .at + 1) 0) refl (sym (c .before .before .before .before .before .before .before .before .before .kind-of .ensures) ∙ c .before .before .before .before .before .before .before .before .match .keys7) in (omega (arith, c .before .before .before .before .before .before .before .before .before .before .before .before .before .before .before .pre .0, j .less), (c .before .above2 .ensures .within, resumable-at (c .before .before .before .before .before .before .before .before .before .before .before .before .before .before .before .pre .1 .1) j))
 
   either-requires-2 : resume-lts.Need-either-requires-2 (claims t) (resume-at t) resume.Post
-  either-requires-2 c κs = let k = child-present (c .before .before .before .before .before .before .before .before .before .before .before .before .before .before .before .before .before .before .before .pre .1 .1 .ready) (sym (c .before .before .before .before .before .before .before .before .before .before .before .before .before .kind-of .ensures) ∙ c .before .before .before .before .before .before .before .before .before .before .before .before .match .keys7) in let m = (made-need (c .before .before .before .before .before .before .before .before .before .before .before .before .before .before .before .before .before .before .before .args .base + roomFor (partAt (c .before .before .before .before .before .before .before .before .before .before .before .before .before .before .before .before .before .before .before .args .nodes .now) (c .before .before .before .before .before .before .before .before .before .before .before .before .before .before .before .before .before .before .before .args .at))) (c .before .before .before .before .before .before .before .before .before .resume3 .ensures) (omega (arith, k .less))) in let j = child-else (c .before .before .before .before .before .before .before .before .before .before .before .before .before .before .before .before .before .before .before .pre .1 .1 .ready) (getD (c .before .before .before .before .before .before .before .before .before .before .before .before .before .before .before .before .before .before .before .args .ends .now) (c .before .before .before .before .before .before .before .before .before .before .before .before .before .before .before .before .before .before .before .args .at + 1) 0) refl (sym (c .before .before .before .before .before .before .before .before .before .before .before .before .before .kind-of .ensures) ∙ c .before .before .before .before .before .before .before .before .before .before .before .before .match .keys7) in beside-top m (c .before .before .before .before .before .above2 .ensures) (c .before .before .before .resume4 .ensures) (λ h e. omega (arith, j .less))
+  either-requires-2 c κs = let k = child-present (c .before .before .before .before .before .before .before .before .before .before .before .before .before .before .before .before .before .before .before .pre .1 .1 .ready) (sym (c .before .before .before .before .before .before .before .before .before .before .before .before .before .kind-of .ensures) ∙ c .before .before .before .before .before .before .before .before .before .before .before .before .match .keys7) in let m = (made-need (c .before .before .before .before .before .before .before .before .before .before .before .before .before .before .before .before .before .before .before .args .base + roomFor (partAt (c .before .before .before .before .before .before .before .before .before .before .before .before .before .before .before .before .before .before .before .args .nodes .now) (c .before .before .before .before .before .before .before .before .before .before .before .before .before .before .before .before .before .before .before .args .at))) (c .before .before .before .before .before .before .before .before .before .resume3 .ensures) (omega (arith, k .less))) in let j = child-else (c .before .before .before .before .before .before .before .before .before .before .before .before .before .before .before .before .before .before .before .pre .1 .1 .ready) (getD (c .before .before .before .before .before .before .before .before .before .before .before .before .before .before .before .before .before .before .before .args .ends .now) (c .before .before .before .before .before .before .before .before .before .before .before .before .before .before .before .before .before .before .before .args .at + 1) 0) refl (sym (c .before .before .before .before .before .before .before .before .before .before .before .before .before .kind-of .ensures) ∙ c .before .before .before .before .before .before .before .before .before .before .before .before .match .keys7) in beside-top m (c .before .before .before .before .before .above2 .ensures) (omega (arith, k .less)) (c .before .before .before .resume4 .ensures) (λ h e. omega (arith, j .less))
 
   mul-second-2 : resume-lts.Need-mul-second-2 (claims t) (resume-at t) resume.Post
   mul-second-2 c = omega (arith, place-few (ready-at (c .before .before .before .before .before .before .before .pre .1 .1 .ready) (child-sequence (c .before .before .before .before .before .before .before .pre .1 .1 .ready) (sym (c .before .kind-of .ensures) ∙ c .match .keys8))))
@@ -134,13 +134,13 @@ module _ (t : ℕ) where
   follow-requires c κs = let k = child-sequence (c .before .before .before .before .before .before .before .before .before .before .before .before .before .pre .1 .1 .ready) (sym (c .before .before .before .before .before .before .before .kind-of .ensures) ∙ c .before .before .before .before .before .before .match .keys8) in let n = (made-need (c .before .before .before .before .before .before .before .before .before .before .before .before .before .args .base + roomFor (partAt (c .before .before .before .before .before .before .before .before .before .before .before .before .before .args .nodes .now) (c .before .before .before .before .before .before .before .before .before .before .before .before .before .args .at))) (c .before .before .before .resume5 .ensures) (omega (arith, k .less))) in let j = child-then (c .before .before .before .before .before .before .before .before .before .before .before .before .before .pre .1 .1 .ready) (getD (c .before .before .before .before .before .before .before .before .before .before .before .before .before .args .ends .now) (c .before .before .before .before .before .before .before .before .before .before .before .before .before .args .at + 1) 0) refl (sym (c .before .before .before .before .before .before .before .kind-of .ensures) ∙ c .before .before .before .before .before .before .match .keys8) in (standing n, ready-at (c .before .before .before .before .before .before .before .before .before .before .before .before .before .pre .1 .1 .ready) j)
 
   above-requires-3 : resume-lts.Need-above-requires-3 (claims t) (resume-at t) resume.Post
-  above-requires-3 c κs = let k = child-sequence (c .before .before .before .before .before .before .before .before .before .before .before .before .before .before .before .before .before .pre .1 .1 .ready) (sym (c .before .before .before .before .before .before .before .before .before .before .before .kind-of .ensures) ∙ c .before .before .before .before .before .before .before .before .before .before .match .keys8) in let n = (made-need (c .before .before .before .before .before .before .before .before .before .before .before .before .before .before .before .before .before .args .base + roomFor (partAt (c .before .before .before .before .before .before .before .before .before .before .before .before .before .before .before .before .before .args .nodes .now) (c .before .before .before .before .before .before .before .before .before .before .before .before .before .before .before .before .before .args .at))) (c .before .before .before .before .before .before .before .resume5 .ensures) (omega (arith, k .less))) in let j = child-then (c .before .before .before .before .before .before .before .before .before .before .before .before .before .before .before .before .before .pre .1 .1 .ready) (getD (c .before .before .before .before .before .before .before .before .before .before .before .before .before .before .before .before .before .args .ends .now) (c .before .before .before .before .before .before .before .before .before .before .before .before .before .before .before .before .before .args .at + 1) 0) refl (sym (c .before .before .before .before .before .before .before .before .before .before .before .kind-of .ensures) ∙ c .before .before .before .before .before .before .before .before .before .before .match .keys8) in let m = followed n (c .before .before .before .follow .ensures) (omega (arith, j .less)) in λ h. omega (arith, m .fits h, m .same)
+  above-requires-3 c κs = let k = child-sequence (c .before .before .before .before .before .before .before .before .before .before .before .before .before .before .before .before .before .pre .1 .1 .ready) (sym (c .before .before .before .before .before .before .before .before .before .before .before .kind-of .ensures) ∙ c .before .before .before .before .before .before .before .before .before .before .match .keys8) in let n = (made-need (c .before .before .before .before .before .before .before .before .before .before .before .before .before .before .before .before .before .args .base + roomFor (partAt (c .before .before .before .before .before .before .before .before .before .before .before .before .before .before .before .before .before .args .nodes .now) (c .before .before .before .before .before .before .before .before .before .before .before .before .before .before .before .before .before .args .at))) (c .before .before .before .before .before .before .before .resume5 .ensures) (omega (arith, k .less))) in let j = child-then (c .before .before .before .before .before .before .before .before .before .before .before .before .before .before .before .before .before .pre .1 .1 .ready) (getD (c .before .before .before .before .before .before .before .before .before .before .before .before .before .before .before .before .before .args .ends .now) (c .before .before .before .before .before .before .before .before .before .before .before .before .before .before .before .before .before .args .at + 1) 0) refl (sym (c .before .before .before .before .before .before .before .before .before .before .before .kind-of .ensures) ∙ c .before .before .before .before .before .before .before .before .before .before .match .keys8) in let m = followed n (c .before .before .before .follow .ensures) (omega (arith, j .less)) in (omega (arith, (c .before .before .before .before .before .before .before .before .before .before .before .before .before .before .before .before .before .pre .1 .0), m .same), λ h. omega (arith, m .fits h, m .same))
 
   resume-requires-6 : resume-lts.Need-resume-requires-6 (claims t) (resume-at t) resume.Post
-  resume-requires-6 c κs = let k = child-sequence (c .before .before .before .before .before .before .before .before .before .before .before .before .before .before .before .before .before .before .before .pre .1 .1 .ready) (sym (c .before .before .before .before .before .before .before .before .before .before .before .before .before .kind-of .ensures) ∙ c .before .before .before .before .before .before .before .before .before .before .before .before .match .keys8) in let n = (made-need (c .before .before .before .before .before .before .before .before .before .before .before .before .before .before .before .before .before .before .before .args .base + roomFor (partAt (c .before .before .before .before .before .before .before .before .before .before .before .before .before .before .before .before .before .before .before .args .nodes .now) (c .before .before .before .before .before .before .before .before .before .before .before .before .before .before .before .before .before .before .before .args .at))) (c .before .before .before .before .before .before .before .before .before .resume5 .ensures) (omega (arith, k .less))) in let j = child-then (c .before .before .before .before .before .before .before .before .before .before .before .before .before .before .before .before .before .before .before .pre .1 .1 .ready) (getD (c .before .before .before .before .before .before .before .before .before .before .before .before .before .before .before .before .before .before .before .args .ends .now) (c .before .before .before .before .before .before .before .before .before .before .before .before .before .before .before .before .before .before .before .args .at + 1) 0) refl (sym (c .before .before .before .before .before .before .before .before .before .before .before .before .before .kind-of .ensures) ∙ c .before .before .before .before .before .before .before .before .before .before .before .before .match .keys8) in let m = followed n (c .before .before .before .before .before .follow .ensures) (omega (arith, j .less)) in (omega (arith, c .before .before .before .before .before .before .before .before .before .before .before .before .before .before .before .before .before .before .before .pre .0, j .less), (top-within m (c .before .above3 .ensures), resumable-at (c .before .before .before .before .before .before .before .before .before .before .before .before .before .before .before .before .before .before .before .pre .1 .1) j))
+  resume-requires-6 c κs = let k = child-sequence (c .before .before .before .before .before .before .before .before .before .before .before .before .before .before .before .before .before .before .before .pre .1 .1 .ready) (sym (c .before .before .before .before .before .before .before .before .before .before .before .before .before .kind-of .ensures) ∙ c .before .before .before .before .before .before .before .before .before .before .before .before .match .keys8) in let n = (made-need (c .before .before .before .before .before .before .before .before .before .before .before .before .before .before .before .before .before .before .before .args .base + roomFor (partAt (c .before .before .before .before .before .before .before .before .before .before .before .before .before .before .before .before .before .before .before .args .nodes .now) (c .before .before .before .before .before .before .before .before .before .before .before .before .before .before .before .before .before .before .before .args .at))) (c .before .before .before .before .before .before .before .before .before .resume5 .ensures) (omega (arith, k .less))) in let j = child-then (c .before .before .before .before .before .before .before .before .before .before .before .before .before .before .before .before .before .before .before .pre .1 .1 .ready) (getD (c .before .before .before .before .before .before .before .before .before .before .before .before .before .before .before .before .before .before .before .args .ends .now) (c .before .before .before .before .before .before .before .before .before .before .before .before .before .before .before .before .before .before .before .args .at + 1) 0) refl (sym (c .before .before .before .before .before .before .before .before .before .before .before .before .before .kind-of .ensures) ∙ c .before .before .before .before .before .before .before .before .before .before .before .before .match .keys8) in let m = followed n (c .before .before .before .before .before .follow .ensures) (omega (arith, j .less)) in (omega (arith, c .before .before .before .before .before .before .before .before .before .before .before .before .before .before .before .before .before .before .before .pre .0, j .less), (c .before .above3 .ensures .within, resumable-at (c .before .before .before .before .before .before .before .before .before .before .before .before .before .before .before .before .before .before .before .pre .1 .1) j))
 
   either-requires-3 : resume-lts.Need-either-requires-3 (claims t) (resume-at t) resume.Post
-  either-requires-3 c κs = let k = child-sequence (c .before .before .before .before .before .before .before .before .before .before .before .before .before .before .before .before .before .before .before .before .before .before .before .pre .1 .1 .ready) (sym (c .before .before .before .before .before .before .before .before .before .before .before .before .before .before .before .before .before .kind-of .ensures) ∙ c .before .before .before .before .before .before .before .before .before .before .before .before .before .before .before .before .match .keys8) in let n = (made-need (c .before .before .before .before .before .before .before .before .before .before .before .before .before .before .before .before .before .before .before .before .before .before .before .args .base + roomFor (partAt (c .before .before .before .before .before .before .before .before .before .before .before .before .before .before .before .before .before .before .before .before .before .before .before .args .nodes .now) (c .before .before .before .before .before .before .before .before .before .before .before .before .before .before .before .before .before .before .before .before .before .before .before .args .at))) (c .before .before .before .before .before .before .before .before .before .before .before .before .before .resume5 .ensures) (omega (arith, k .less))) in let j = child-then (c .before .before .before .before .before .before .before .before .before .before .before .before .before .before .before .before .before .before .before .before .before .before .before .pre .1 .1 .ready) (getD (c .before .before .before .before .before .before .before .before .before .before .before .before .before .before .before .before .before .before .before .before .before .before .before .args .ends .now) (c .before .before .before .before .before .before .before .before .before .before .before .before .before .before .before .before .before .before .before .before .before .before .before .args .at + 1) 0) refl (sym (c .before .before .before .before .before .before .before .before .before .before .before .before .before .before .before .before .before .kind-of .ensures) ∙ c .before .before .before .before .before .before .before .before .before .before .before .before .before .before .before .before .match .keys8) in let m = followed n (c .before .before .before .before .before .before .before .before .before .follow .ensures) (omega (arith, j .less)) in beside-top m (c .before .before .before .before .before .above3 .ensures) (c .before .before .before .resume6 .ensures) (λ h e. omega (arith, j .less))
+  either-requires-3 c κs = let k = child-sequence (c .before .before .before .before .before .before .before .before .before .before .before .before .before .before .before .before .before .before .before .before .before .before .before .pre .1 .1 .ready) (sym (c .before .before .before .before .before .before .before .before .before .before .before .before .before .before .before .before .before .kind-of .ensures) ∙ c .before .before .before .before .before .before .before .before .before .before .before .before .before .before .before .before .match .keys8) in let n = (made-need (c .before .before .before .before .before .before .before .before .before .before .before .before .before .before .before .before .before .before .before .before .before .before .before .args .base + roomFor (partAt (c .before .before .before .before .before .before .before .before .before .before .before .before .before .before .before .before .before .before .before .before .before .before .before .args .nodes .now) (c .before .before .before .before .before .before .before .before .before .before .before .before .before .before .before .before .before .before .before .before .before .before .before .args .at))) (c .before .before .before .before .before .before .before .before .before .before .before .before .before .resume5 .ensures) (omega (arith, k .less))) in let j = child-then (c .before .before .before .before .before .before .before .before .before .before .before .before .before .before .before .before .before .before .before .before .before .before .before .pre .1 .1 .ready) (getD (c .before .before .before .before .before .before .before .before .before .before .before .before .before .before .before .before .before .before .before .before .before .before .before .args .ends .now) (c .before .before .before .before .before .before .before .before .before .before .before .before .before .before .before .before .before .before .before .before .before .before .before .args .at + 1) 0) refl (sym (c .before .before .before .before .before .before .before .before .before .before .before .before .before .before .before .before .before .kind-of .ensures) ∙ c .before .before .before .before .before .before .before .before .before .before .before .before .before .before .before .before .match .keys8) in let m = followed n (c .before .before .before .before .before .before .before .before .before .follow .ensures) (omega (arith, j .less)) in beside-top m (c .before .before .before .before .before .above3 .ensures) (omega (arith, k .less)) (c .before .before .before .resume6 .ensures) (λ h e. omega (arith, j .less))
 
   mul-second-3 : resume-lts.Need-mul-second-3 (claims t) (resume-at t) resume.Post
   mul-second-3 c = omega (arith, place-few (ready-at (c .before .before .before .before .before .before .before .pre .1 .1 .ready) (child-parallel (c .before .before .before .before .before .before .before .pre .1 .1 .ready) (sym (c .before .kind-of .ensures) ∙ c .match .keys9))))
@@ -182,13 +182,13 @@ module _ (t : ℕ) where
   same-length-2 c = returns-3 c .same
 
   above-requires-4 : resume-lts.Need-above-requires-4 (claims t) (resume-at t) resume.Post
-  above-requires-4 c κs = let k = child-parallel (c .before .before .before .before .before .before .before .before .before .before .before .before .before .before .before .before .before .pre .1 .1 .ready) (sym (c .before .before .before .before .before .before .before .before .before .before .before .kind-of .ensures) ∙ c .before .before .before .before .before .before .before .before .before .before .match .keys9) in let m = (made-need (c .before .before .before .before .before .before .before .before .before .before .before .before .before .before .before .before .before .args .base + roomFor (partAt (c .before .before .before .before .before .before .before .before .before .before .before .before .before .before .before .before .before .args .nodes .now) (c .before .before .before .before .before .before .before .before .before .before .before .before .before .before .before .before .before .args .at))) (c .before .before .before .before .before .resume8 .ensures) (omega (arith, k .less))) in λ h. omega (arith, m .fits h, m .same)
+  above-requires-4 c κs = let k = child-parallel (c .before .before .before .before .before .before .before .before .before .before .before .before .before .before .before .before .before .pre .1 .1 .ready) (sym (c .before .before .before .before .before .before .before .before .before .before .before .kind-of .ensures) ∙ c .before .before .before .before .before .before .before .before .before .before .match .keys9) in let m = (made-need (c .before .before .before .before .before .before .before .before .before .before .before .before .before .before .before .before .before .args .base + roomFor (partAt (c .before .before .before .before .before .before .before .before .before .before .before .before .before .before .before .before .before .args .nodes .now) (c .before .before .before .before .before .before .before .before .before .before .before .before .before .before .before .before .before .args .at))) (c .before .before .before .before .before .resume8 .ensures) (omega (arith, k .less))) in (omega (arith, (c .before .before .before .before .before .before .before .before .before .before .before .before .before .before .before .before .before .pre .1 .0), m .same), λ h. omega (arith, m .fits h, m .same))
 
   resume-requires-9 : resume-lts.Need-resume-requires-9 (claims t) (resume-at t) resume.Post
-  resume-requires-9 c κs = let k = child-parallel (c .before .before .before .before .before .before .before .before .before .before .before .before .before .before .before .before .before .before .before .pre .1 .1 .ready) (sym (c .before .before .before .before .before .before .before .before .before .before .before .before .before .kind-of .ensures) ∙ c .before .before .before .before .before .before .before .before .before .before .before .before .match .keys9) in let m = (made-need (c .before .before .before .before .before .before .before .before .before .before .before .before .before .before .before .before .before .before .before .args .base + roomFor (partAt (c .before .before .before .before .before .before .before .before .before .before .before .before .before .before .before .before .before .before .before .args .nodes .now) (c .before .before .before .before .before .before .before .before .before .before .before .before .before .before .before .before .before .before .before .args .at))) (c .before .before .before .before .before .before .before .resume8 .ensures) (omega (arith, k .less))) in let j = child-beside (c .before .before .before .before .before .before .before .before .before .before .before .before .before .before .before .before .before .before .before .pre .1 .1 .ready) (getD (c .before .before .before .before .before .before .before .before .before .before .before .before .before .before .before .before .before .before .before .args .ends .now) (c .before .before .before .before .before .before .before .before .before .before .before .before .before .before .before .before .before .before .before .args .at + 1) 0) refl (sym (c .before .before .before .before .before .before .before .before .before .before .before .before .before .kind-of .ensures) ∙ c .before .before .before .before .before .before .before .before .before .before .before .before .match .keys9) in (omega (arith, c .before .before .before .before .before .before .before .before .before .before .before .before .before .before .before .before .before .before .before .pre .0, j .less), (top-within m (c .before .above4 .ensures), resumable-at (c .before .before .before .before .before .before .before .before .before .before .before .before .before .before .before .before .before .before .before .pre .1 .1) j))
+  resume-requires-9 c κs = let k = child-parallel (c .before .before .before .before .before .before .before .before .before .before .before .before .before .before .before .before .before .before .before .pre .1 .1 .ready) (sym (c .before .before .before .before .before .before .before .before .before .before .before .before .before .kind-of .ensures) ∙ c .before .before .before .before .before .before .before .before .before .before .before .before .match .keys9) in let m = (made-need (c .before .before .before .before .before .before .before .before .before .before .before .before .before .before .before .before .before .before .before .args .base + roomFor (partAt (c .before .before .before .before .before .before .before .before .before .before .before .before .before .before .before .before .before .before .before .args .nodes .now) (c .before .before .before .before .before .before .before .before .before .before .before .before .before .before .before .before .before .before .before .args .at))) (c .before .before .before .before .before .before .before .resume8 .ensures) (omega (arith, k .less))) in let j = child-beside (c .before .before .before .before .before .before .before .before .before .before .before .before .before .before .before .before .before .before .before .pre .1 .1 .ready) (getD (c .before .before .before .before .before .before .before .before .before .before .before .before .before .before .before .before .before .before .before .args .ends .now) (c .before .before .before .before .before .before .before .before .before .before .before .before .before .before .before .before .before .before .before .args .at + 1) 0) refl (sym (c .before .before .before .before .before .before .before .before .before .before .before .before .before .kind-of .ensures) ∙ c .before .before .before .before .before .before .before .before .before .before .before .before .match .keys9) in (omega (arith, c .before .before .before .before .before .before .before .before .before .before .before .before .before .before .before .before .before .before .before .pre .0, j .less), (c .before .above4 .ensures .within, resumable-at (c .before .before .before .before .before .before .before .before .before .before .before .before .before .before .before .before .before .before .before .pre .1 .1) j))
 
   together-requires : resume-lts.Need-together-requires (claims t) (resume-at t) resume.Post
-  together-requires c κs = let k = child-parallel (c .before .before .before .before .before .before .before .before .before .before .before .before .before .before .before .before .before .before .before .before .before .before .before .pre .1 .1 .ready) (sym (c .before .before .before .before .before .before .before .before .before .before .before .before .before .before .before .before .before .kind-of .ensures) ∙ c .before .before .before .before .before .before .before .before .before .before .before .before .before .before .before .before .match .keys9) in let m = (made-need (c .before .before .before .before .before .before .before .before .before .before .before .before .before .before .before .before .before .before .before .before .before .before .before .args .base + roomFor (partAt (c .before .before .before .before .before .before .before .before .before .before .before .before .before .before .before .before .before .before .before .before .before .before .before .args .nodes .now) (c .before .before .before .before .before .before .before .before .before .before .before .before .before .before .before .before .before .before .before .before .before .before .before .args .at))) (c .before .before .before .before .before .before .before .before .before .before .before .resume8 .ensures) (omega (arith, k .less))) in let j = child-beside (c .before .before .before .before .before .before .before .before .before .before .before .before .before .before .before .before .before .before .before .before .before .before .before .pre .1 .1 .ready) (getD (c .before .before .before .before .before .before .before .before .before .before .before .before .before .before .before .before .before .before .before .before .before .before .before .args .ends .now) (c .before .before .before .before .before .before .before .before .before .before .before .before .before .before .before .before .before .before .before .before .before .before .before .args .at + 1) 0) refl (sym (c .before .before .before .before .before .before .before .before .before .before .before .before .before .before .before .before .before .kind-of .ensures) ∙ c .before .before .before .before .before .before .before .before .before .before .before .before .before .before .before .before .match .keys9) in beside-top m (c .before .before .before .before .before .above4 .ensures) (c .before .before .before .resume9 .ensures) (λ h e. omega (arith, j .less))
+  together-requires c κs = let k = child-parallel (c .before .before .before .before .before .before .before .before .before .before .before .before .before .before .before .before .before .before .before .before .before .before .before .pre .1 .1 .ready) (sym (c .before .before .before .before .before .before .before .before .before .before .before .before .before .before .before .before .before .kind-of .ensures) ∙ c .before .before .before .before .before .before .before .before .before .before .before .before .before .before .before .before .match .keys9) in let m = (made-need (c .before .before .before .before .before .before .before .before .before .before .before .before .before .before .before .before .before .before .before .before .before .before .before .args .base + roomFor (partAt (c .before .before .before .before .before .before .before .before .before .before .before .before .before .before .before .before .before .before .before .before .before .before .before .args .nodes .now) (c .before .before .before .before .before .before .before .before .before .before .before .before .before .before .before .before .before .before .before .before .before .before .before .args .at))) (c .before .before .before .before .before .before .before .before .before .before .before .resume8 .ensures) (omega (arith, k .less))) in let j = child-beside (c .before .before .before .before .before .before .before .before .before .before .before .before .before .before .before .before .before .before .before .before .before .before .before .pre .1 .1 .ready) (getD (c .before .before .before .before .before .before .before .before .before .before .before .before .before .before .before .before .before .before .before .before .before .before .before .args .ends .now) (c .before .before .before .before .before .before .before .before .before .before .before .before .before .before .before .before .before .before .before .before .before .before .before .args .at + 1) 0) refl (sym (c .before .before .before .before .before .before .before .before .before .before .before .before .before .before .before .before .before .kind-of .ensures) ∙ c .before .before .before .before .before .before .before .before .before .before .before .before .before .before .before .before .match .keys9) in beside-top m (c .before .before .before .before .before .above4 .ensures) (omega (arith, k .less)) (c .before .before .before .resume9 .ensures) (λ h e. omega (arith, j .less))
 
   resume-requires-10 : resume-lts.Need-resume-requires-10 (claims t) (resume-at t) resume.Post
   resume-requires-10 c κs = let k = child-loop (c .before .before .before .before .before .before .before .before .pre .1 .1 .ready) (sym (c .before .before .kind-of .ensures) ∙ c .before .match .keys10) in (omega (arith, c .before .before .before .before .before .before .before .before .pre .0, k .less), ((c .before .before .before .before .before .before .before .before .pre .1 .0), resumable-at (c .before .before .before .before .before .before .before .before .pre .1 .1) k))
@@ -221,25 +221,25 @@ module _ (t : ℕ) where
   returns-8 c = resumed-exit (c .before .before .before .before .before .before .before .pre .1 .1 .ready) (c .before .before .before .before .before .before .before .args .labels) (c .before .before .before .before .before .before .before .args .assumed) (c .before .before .before .before .before .before .before .args .area .now) (c .before .before .before .before .before .before .before .args .base) (c .before .before .before .before .before .before .before .args .base + roomFor (partAt (c .before .before .before .before .before .before .before .args .nodes .now) (c .before .before .before .before .before .before .before .args .at))) (c .before .before .before .before .before .before .before .pre .1 .0) (sym (c .before .kind-of .ensures) ∙ c .match .keys5)
 
   returns-9 : resume-lts.Need-returns-9 (claims t) (resume-at t) resume.Post
-  returns-9 c = let k = child-signal (c .before .before .before .before .before .before .before .before .before .before .before .before .before .before .before .before .before .before .before .before .before .before .before .before .before .before .before .pre .1 .1 .ready) (sym (c .before .before .before .before .before .before .before .before .before .before .before .before .before .before .before .before .before .before .before .before .before .kind-of .ensures) ∙ c .before .before .before .before .before .before .before .before .before .before .before .before .before .before .before .before .before .before .before .before .match .keys6) in let m = altered (Hide (c .before .before .before .before .before .before .before .before .before .before .before .before .before .before .before .before .before .before .before .before .before .before .operand-of .result)) (made-need (c .before .before .before .before .before .before .before .before .before .before .before .before .before .before .before .before .before .before .before .before .before .before .before .before .before .before .before .args .base + roomFor (partAt (c .before .before .before .before .before .before .before .before .before .before .before .before .before .before .before .before .before .before .before .before .before .before .before .before .before .before .before .args .nodes .now) (c .before .before .before .before .before .before .before .before .before .before .before .before .before .before .before .before .before .before .before .before .before .before .before .before .before .before .before .args .at))) (c .before .before .before .before .before .before .before .before .before .before .before .before .before .before .before .before .before .resume .ensures) (omega (arith, k .less))) (c .before .before .before .before .before .before .before .before .before .before .before .before .before .alter .ensures) in list-signal (c .before .before .before .before .before .before .before .before .before .before .before .before .before .before .before .before .before .before .before .before .before .before .before .before .before .before .before .pre .1 .1 .ready) (c .before .before .before .before .before .before .before .before .before .before .before .before .before .before .before .before .before .before .before .before .before .before .before .before .before .before .before .args .assumed) (resumed (c .before .before .before .before .before .before .before .before .before .before .before .before .before .before .before .before .before .before .before .before .before .before .before .before .before .before .before .args .labels)) (sym (c .before .before .before .before .before .before .before .before .before .before .before .before .before .before .before .before .before .before .before .before .before .kind-of .ensures) ∙ c .before .before .before .before .before .before .before .before .before .before .before .before .before .before .before .before .before .before .before .before .match .keys6) (c .before .before .before .before .before .before .before .before .before .before .before .before .before .before .before .before .before .before .before .before .before .before .operand-of .result) _ _ (c .before .before .before .before .before .before .before .before .before .before .before .before .before .before .before .before .before .before .before .before .before .before .operand-of .ensures) (c .before .before .before .before .before .before .before .before .before .before .before .before .before .before .before .before .before .before .before .with-number .ensures) (c .before .before .before .before .before .before .before .before .without .ensures) (joined m (c .before .before .before .before .before .before .before .before .before .above .ensures) _++_ (c .before .before .before .before .before .before .resume2 .ensures) (λ h e. omega (arith, k .less)) (c .before .before .before .before .before .before .before .before .before .before .before .before .before .before .before .before .before .before .before .before .before .before .before .before .before .before .before .pre .1 .0) (omega (arith, k .less)) (c .before .before .either .ensures))
+  returns-9 c = let k = child-signal (c .before .before .before .before .before .before .before .before .before .before .before .before .before .before .before .before .before .before .before .before .before .before .before .before .before .before .before .pre .1 .1 .ready) (sym (c .before .before .before .before .before .before .before .before .before .before .before .before .before .before .before .before .before .before .before .before .before .kind-of .ensures) ∙ c .before .before .before .before .before .before .before .before .before .before .before .before .before .before .before .before .before .before .before .before .match .keys6) in let m = altered (Hide (c .before .before .before .before .before .before .before .before .before .before .before .before .before .before .before .before .before .before .before .before .before .before .operand-of .result)) (made-need (c .before .before .before .before .before .before .before .before .before .before .before .before .before .before .before .before .before .before .before .before .before .before .before .before .before .before .before .args .base + roomFor (partAt (c .before .before .before .before .before .before .before .before .before .before .before .before .before .before .before .before .before .before .before .before .before .before .before .before .before .before .before .args .nodes .now) (c .before .before .before .before .before .before .before .before .before .before .before .before .before .before .before .before .before .before .before .before .before .before .before .before .before .before .before .args .at))) (c .before .before .before .before .before .before .before .before .before .before .before .before .before .before .before .before .before .resume .ensures) (omega (arith, k .less))) (c .before .before .before .before .before .before .before .before .before .before .before .before .before .alter .ensures) in list-signal (c .before .before .before .before .before .before .before .before .before .before .before .before .before .before .before .before .before .before .before .before .before .before .before .before .before .before .before .pre .1 .1 .ready) (c .before .before .before .before .before .before .before .before .before .before .before .before .before .before .before .before .before .before .before .before .before .before .before .before .before .before .before .args .assumed) (resumed (c .before .before .before .before .before .before .before .before .before .before .before .before .before .before .before .before .before .before .before .before .before .before .before .before .before .before .before .args .labels)) (sym (c .before .before .before .before .before .before .before .before .before .before .before .before .before .before .before .before .before .before .before .before .before .kind-of .ensures) ∙ c .before .before .before .before .before .before .before .before .before .before .before .before .before .before .before .before .before .before .before .before .match .keys6) (c .before .before .before .before .before .before .before .before .before .before .before .before .before .before .before .before .before .before .before .before .before .before .operand-of .result) _ _ (c .before .before .before .before .before .before .before .before .before .before .before .before .before .before .before .before .before .before .before .before .before .before .operand-of .ensures) (c .before .before .before .before .before .before .before .before .before .before .before .before .before .before .before .before .before .before .before .with-number .ensures) (c .before .before .before .before .before .before .before .before .without .ensures) (joined m (c .before .before .before .before .before .before .before .before .before .above .ensures) (omega (arith, k .less)) _++_ (c .before .before .before .before .before .before .resume2 .ensures) (λ h e. omega (arith, k .less)) (c .before .before .before .before .before .before .before .before .before .before .before .before .before .before .before .before .before .before .before .before .before .before .before .before .before .before .before .pre .1 .0) (c .before .before .either .ensures))
 
   same-length-4 : resume-lts.Need-same-length-4 (claims t) (resume-at t) resume.Post
   same-length-4 c = returns-9 c .same
 
   returns-10 : resume-lts.Need-returns-10 (claims t) (resume-at t) resume.Post
-  returns-10 c = let k = child-present (c .before .before .before .before .before .before .before .before .before .before .before .before .before .before .before .before .before .before .before .before .before .before .pre .1 .1 .ready) (sym (c .before .before .before .before .before .before .before .before .before .before .before .before .before .before .before .before .kind-of .ensures) ∙ c .before .before .before .before .before .before .before .before .before .before .before .before .before .before .before .match .keys7) in let m = (made-need (c .before .before .before .before .before .before .before .before .before .before .before .before .before .before .before .before .before .before .before .before .before .before .args .base + roomFor (partAt (c .before .before .before .before .before .before .before .before .before .before .before .before .before .before .before .before .before .before .before .before .before .before .args .nodes .now) (c .before .before .before .before .before .before .before .before .before .before .before .before .before .before .before .before .before .before .before .before .before .before .args .at))) (c .before .before .before .before .before .before .before .before .before .before .before .before .resume3 .ensures) (omega (arith, k .less))) in let j = child-else (c .before .before .before .before .before .before .before .before .before .before .before .before .before .before .before .before .before .before .before .before .before .before .pre .1 .1 .ready) (getD (c .before .before .before .before .before .before .before .before .before .before .before .before .before .before .before .before .before .before .before .before .before .before .args .ends .now) (c .before .before .before .before .before .before .before .before .before .before .before .before .before .before .before .before .before .before .before .before .before .before .args .at + 1) 0) refl (sym (c .before .before .before .before .before .before .before .before .before .before .before .before .before .before .before .before .kind-of .ensures) ∙ c .before .before .before .before .before .before .before .before .before .before .before .before .before .before .before .match .keys7) in resumed-present (c .before .before .before .before .before .before .before .before .before .before .before .before .before .before .before .before .before .before .before .before .before .before .pre .1 .1 .ready) (c .before .before .before .before .before .before .before .before .before .before .before .before .before .before .before .before .before .before .before .before .before .before .args .labels) (c .before .before .before .before .before .before .before .before .before .before .before .before .before .before .before .before .before .before .before .before .before .before .args .assumed) (getD (c .before .before .before .before .before .before .before .before .before .before .before .before .before .before .before .before .before .before .before .before .before .before .args .ends .now) (c .before .before .before .before .before .before .before .before .before .before .before .before .before .before .before .before .before .before .before .before .before .before .args .at + 1) 0) refl (sym (c .before .before .before .before .before .before .before .before .before .before .before .before .before .before .before .before .kind-of .ensures) ∙ c .before .before .before .before .before .before .before .before .before .before .before .before .before .before .before .match .keys7) (joined m (c .before .before .before .before .before .before .before .before .above2 .ensures) _++_ (c .before .before .before .before .before .before .resume4 .ensures) (λ h e. omega (arith, j .less)) (c .before .before .before .before .before .before .before .before .before .before .before .before .before .before .before .before .before .before .before .before .before .before .pre .1 .0) (omega (arith, k .less)) (c .before .before .either2 .ensures))
+  returns-10 c = let k = child-present (c .before .before .before .before .before .before .before .before .before .before .before .before .before .before .before .before .before .before .before .before .before .before .pre .1 .1 .ready) (sym (c .before .before .before .before .before .before .before .before .before .before .before .before .before .before .before .before .kind-of .ensures) ∙ c .before .before .before .before .before .before .before .before .before .before .before .before .before .before .before .match .keys7) in let m = (made-need (c .before .before .before .before .before .before .before .before .before .before .before .before .before .before .before .before .before .before .before .before .before .before .args .base + roomFor (partAt (c .before .before .before .before .before .before .before .before .before .before .before .before .before .before .before .before .before .before .before .before .before .before .args .nodes .now) (c .before .before .before .before .before .before .before .before .before .before .before .before .before .before .before .before .before .before .before .before .before .before .args .at))) (c .before .before .before .before .before .before .before .before .before .before .before .before .resume3 .ensures) (omega (arith, k .less))) in let j = child-else (c .before .before .before .before .before .before .before .before .before .before .before .before .before .before .before .before .before .before .before .before .before .before .pre .1 .1 .ready) (getD (c .before .before .before .before .before .before .before .before .before .before .before .before .before .before .before .before .before .before .before .before .before .before .args .ends .now) (c .before .before .before .before .before .before .before .before .before .before .before .before .before .before .before .before .before .before .before .before .before .before .args .at + 1) 0) refl (sym (c .before .before .before .before .before .before .before .before .before .before .before .before .before .before .before .before .kind-of .ensures) ∙ c .before .before .before .before .before .before .before .before .before .before .before .before .before .before .before .match .keys7) in resumed-present (c .before .before .before .before .before .before .before .before .before .before .before .before .before .before .before .before .before .before .before .before .before .before .pre .1 .1 .ready) (c .before .before .before .before .before .before .before .before .before .before .before .before .before .before .before .before .before .before .before .before .before .before .args .labels) (c .before .before .before .before .before .before .before .before .before .before .before .before .before .before .before .before .before .before .before .before .before .before .args .assumed) (getD (c .before .before .before .before .before .before .before .before .before .before .before .before .before .before .before .before .before .before .before .before .before .before .args .ends .now) (c .before .before .before .before .before .before .before .before .before .before .before .before .before .before .before .before .before .before .before .before .before .before .args .at + 1) 0) refl (sym (c .before .before .before .before .before .before .before .before .before .before .before .before .before .before .before .before .kind-of .ensures) ∙ c .before .before .before .before .before .before .before .before .before .before .before .before .before .before .before .match .keys7) (joined m (c .before .before .before .before .before .before .before .before .above2 .ensures) (omega (arith, k .less)) _++_ (c .before .before .before .before .before .before .resume4 .ensures) (λ h e. omega (arith, j .less)) (c .before .before .before .before .before .before .before .before .before .before .before .before .before .before .before .before .before .before .before .before .before .before .pre .1 .0) (c .before .before .either2 .ensures))
 
   same-length-5 : resume-lts.Need-same-length-5 (claims t) (resume-at t) resume.Post
   same-length-5 c = returns-10 c .same
 
   returns-11 : resume-lts.Need-returns-11 (claims t) (resume-at t) resume.Post
-  returns-11 c = let k = child-sequence (c .before .before .before .before .before .before .before .before .before .before .before .before .before .before .before .before .before .before .before .before .before .before .before .before .before .before .pre .1 .1 .ready) (sym (c .before .before .before .before .before .before .before .before .before .before .before .before .before .before .before .before .before .before .before .before .kind-of .ensures) ∙ c .before .before .before .before .before .before .before .before .before .before .before .before .before .before .before .before .before .before .before .match .keys8) in let n = (made-need (c .before .before .before .before .before .before .before .before .before .before .before .before .before .before .before .before .before .before .before .before .before .before .before .before .before .before .args .base + roomFor (partAt (c .before .before .before .before .before .before .before .before .before .before .before .before .before .before .before .before .before .before .before .before .before .before .before .before .before .before .args .nodes .now) (c .before .before .before .before .before .before .before .before .before .before .before .before .before .before .before .before .before .before .before .before .before .before .before .before .before .before .args .at))) (c .before .before .before .before .before .before .before .before .before .before .before .before .before .before .before .before .resume5 .ensures) (omega (arith, k .less))) in let j = child-then (c .before .before .before .before .before .before .before .before .before .before .before .before .before .before .before .before .before .before .before .before .before .before .before .before .before .before .pre .1 .1 .ready) (getD (c .before .before .before .before .before .before .before .before .before .before .before .before .before .before .before .before .before .before .before .before .before .before .before .before .before .before .args .ends .now) (c .before .before .before .before .before .before .before .before .before .before .before .before .before .before .before .before .before .before .before .before .before .before .before .before .before .before .args .at + 1) 0) refl (sym (c .before .before .before .before .before .before .before .before .before .before .before .before .before .before .before .before .before .before .before .before .kind-of .ensures) ∙ c .before .before .before .before .before .before .before .before .before .before .before .before .before .before .before .before .before .before .before .match .keys8) in let m = followed n (c .before .before .before .before .before .before .before .before .before .before .before .before .follow .ensures) (omega (arith, j .less)) in resumed-sequence (c .before .before .before .before .before .before .before .before .before .before .before .before .before .before .before .before .before .before .before .before .before .before .before .before .before .before .pre .1 .1 .ready) (c .before .before .before .before .before .before .before .before .before .before .before .before .before .before .before .before .before .before .before .before .before .before .before .before .before .before .args .labels) (c .before .before .before .before .before .before .before .before .before .before .before .before .before .before .before .before .before .before .before .before .before .before .before .before .before .before .args .assumed) (getD (c .before .before .before .before .before .before .before .before .before .before .before .before .before .before .before .before .before .before .before .before .before .before .before .before .before .before .args .ends .now) (c .before .before .before .before .before .before .before .before .before .before .before .before .before .before .before .before .before .before .before .before .before .before .before .before .before .before .args .at + 1) 0) refl (sym (c .before .before .before .before .before .before .before .before .before .before .before .before .before .before .before .before .before .before .before .before .kind-of .ensures) ∙ c .before .before .before .before .before .before .before .before .before .before .before .before .before .before .before .before .before .before .before .match .keys8) (joined m (c .before .before .before .before .before .before .before .before .above3 .ensures) _++_ (c .before .before .before .before .before .before .resume6 .ensures) (λ h e. omega (arith, j .less)) (c .before .before .before .before .before .before .before .before .before .before .before .before .before .before .before .before .before .before .before .before .before .before .before .before .before .before .pre .1 .0) (omega (arith, k .less)) (c .before .before .either3 .ensures))
+  returns-11 c = let k = child-sequence (c .before .before .before .before .before .before .before .before .before .before .before .before .before .before .before .before .before .before .before .before .before .before .before .before .before .before .pre .1 .1 .ready) (sym (c .before .before .before .before .before .before .before .before .before .before .before .before .before .before .before .before .before .before .before .before .kind-of .ensures) ∙ c .before .before .before .before .before .before .before .before .before .before .before .before .before .before .before .before .before .before .before .match .keys8) in let n = (made-need (c .before .before .before .before .before .before .before .before .before .before .before .before .before .before .before .before .before .before .before .before .before .before .before .before .before .before .args .base + roomFor (partAt (c .before .before .before .before .before .before .before .before .before .before .before .before .before .before .before .before .before .before .before .before .before .before .before .before .before .before .args .nodes .now) (c .before .before .before .before .before .before .before .before .before .before .before .before .before .before .before .before .before .before .before .before .before .before .before .before .before .before .args .at))) (c .before .before .before .before .before .before .before .before .before .before .before .before .before .before .before .before .resume5 .ensures) (omega (arith, k .less))) in let j = child-then (c .before .before .before .before .before .before .before .before .before .before .before .before .before .before .before .before .before .before .before .before .before .before .before .before .before .before .pre .1 .1 .ready) (getD (c .before .before .before .before .before .before .before .before .before .before .before .before .before .before .before .before .before .before .before .before .before .before .before .before .before .before .args .ends .now) (c .before .before .before .before .before .before .before .before .before .before .before .before .before .before .before .before .before .before .before .before .before .before .before .before .before .before .args .at + 1) 0) refl (sym (c .before .before .before .before .before .before .before .before .before .before .before .before .before .before .before .before .before .before .before .before .kind-of .ensures) ∙ c .before .before .before .before .before .before .before .before .before .before .before .before .before .before .before .before .before .before .before .match .keys8) in let m = followed n (c .before .before .before .before .before .before .before .before .before .before .before .before .follow .ensures) (omega (arith, j .less)) in resumed-sequence (c .before .before .before .before .before .before .before .before .before .before .before .before .before .before .before .before .before .before .before .before .before .before .before .before .before .before .pre .1 .1 .ready) (c .before .before .before .before .before .before .before .before .before .before .before .before .before .before .before .before .before .before .before .before .before .before .before .before .before .before .args .labels) (c .before .before .before .before .before .before .before .before .before .before .before .before .before .before .before .before .before .before .before .before .before .before .before .before .before .before .args .assumed) (getD (c .before .before .before .before .before .before .before .before .before .before .before .before .before .before .before .before .before .before .before .before .before .before .before .before .before .before .args .ends .now) (c .before .before .before .before .before .before .before .before .before .before .before .before .before .before .before .before .before .before .before .before .before .before .before .before .before .before .args .at + 1) 0) refl (sym (c .before .before .before .before .before .before .before .before .before .before .before .before .before .before .before .before .before .before .before .before .kind-of .ensures) ∙ c .before .before .before .before .before .before .before .before .before .before .before .before .before .before .before .before .before .before .before .match .keys8) (joined m (c .before .before .before .before .before .before .before .before .above3 .ensures) (omega (arith, k .less)) _++_ (c .before .before .before .before .before .before .resume6 .ensures) (λ h e. omega (arith, j .less)) (c .before .before .before .before .before .before .before .before .before .before .before .before .before .before .before .before .before .before .before .before .before .before .before .before .before .before .pre .1 .0) (c .before .before .either3 .ensures))
 
   same-length-6 : resume-lts.Need-same-length-6 (claims t) (resume-at t) resume.Post
   same-length-6 c = returns-11 c .same
 
   returns-12 : resume-lts.Need-returns-12 (claims t) (resume-at t) resume.Post
-  returns-12 c = let k = child-parallel (c .before .before .before .before .before .before .before .before .before .before .before .before .before .before .before .before .before .before .before .before .before .before .before .before .before .before .pre .1 .1 .ready) (sym (c .before .before .before .before .before .before .before .before .before .before .before .before .before .before .before .before .before .before .before .before .kind-of .ensures) ∙ c .before .before .before .before .before .before .before .before .before .before .before .before .before .before .before .before .before .before .before .match .keys9) in let m = (made-need (c .before .before .before .before .before .before .before .before .before .before .before .before .before .before .before .before .before .before .before .before .before .before .before .before .before .before .args .base + roomFor (partAt (c .before .before .before .before .before .before .before .before .before .before .before .before .before .before .before .before .before .before .before .before .before .before .before .before .before .before .args .nodes .now) (c .before .before .before .before .before .before .before .before .before .before .before .before .before .before .before .before .before .before .before .before .before .before .before .before .before .before .args .at))) (c .before .before .before .before .before .before .before .before .before .before .before .before .before .before .resume8 .ensures) (omega (arith, k .less))) in let j = child-beside (c .before .before .before .before .before .before .before .before .before .before .before .before .before .before .before .before .before .before .before .before .before .before .before .before .before .before .pre .1 .1 .ready) (getD (c .before .before .before .before .before .before .before .before .before .before .before .before .before .before .before .before .before .before .before .before .before .before .before .before .before .before .args .ends .now) (c .before .before .before .before .before .before .before .before .before .before .before .before .before .before .before .before .before .before .before .before .before .before .before .before .before .before .args .at + 1) 0) refl (sym (c .before .before .before .before .before .before .before .before .before .before .before .before .before .before .before .before .before .before .before .before .kind-of .ensures) ∙ c .before .before .before .before .before .before .before .before .before .before .before .before .before .before .before .before .before .before .before .match .keys9) in resumed-both (c .before .before .before .before .before .before .before .before .before .before .before .before .before .before .before .before .before .before .before .before .before .before .before .before .before .before .pre .1 .1 .ready) (c .before .before .before .before .before .before .before .before .before .before .before .before .before .before .before .before .before .before .before .before .before .before .before .before .before .before .args .labels) (c .before .before .before .before .before .before .before .before .before .before .before .before .before .before .before .before .before .before .before .before .before .before .before .before .before .before .args .assumed) (getD (c .before .before .before .before .before .before .before .before .before .before .before .before .before .before .before .before .before .before .before .before .before .before .before .before .before .before .args .ends .now) (c .before .before .before .before .before .before .before .before .before .before .before .before .before .before .before .before .before .before .before .before .before .before .before .before .before .before .args .at + 1) 0) refl (sym (c .before .before .before .before .before .before .before .before .before .before .before .before .before .before .before .before .before .before .before .before .kind-of .ensures) ∙ c .before .before .before .before .before .before .before .before .before .before .before .before .before .before .before .before .before .before .before .match .keys9) (meets (resumable-at (c .before .before .before .before .before .before .before .before .before .before .before .before .before .before .before .before .before .before .before .before .before .before .before .before .before .before .pre .1 .1) k) (c .before .before .before .before .before .before .before .before .before .before .before .before .before .before .before .before .before .before .before .before .before .before .before .before .before .before .args .labels) (getD (c .before .before .before .before .before .before .before .before .before .before .before .before .before .before .before .before .before .before .before .before .before .before .before .before .before .before .args .pauses .now) (c .before .before .before .before .before .before .before .before .before .before .before .before .before .before .before .before .before .before .before .before .before .before .before .before .before .before .args .at + 1) 0) refl (c .before .before .before .before .before .before .before .before .before .before .before .before .before .before .before .before .if2 .left)) (meets (resumable-at (c .before .before .before .before .before .before .before .before .before .before .before .before .before .before .before .before .before .before .before .before .before .before .before .before .before .before .pre .1 .1) j) (c .before .before .before .before .before .before .before .before .before .before .before .before .before .before .before .before .before .before .before .before .before .before .before .before .before .before .args .labels) (getD (c .before .before .before .before .before .before .before .before .before .before .before .before .before .before .before .before .before .before .before .before .before .before .before .before .before .before .args .pauses .now) (getD (c .before .before .before .before .before .before .before .before .before .before .before .before .before .before .before .before .before .before .before .before .before .before .before .before .before .before .args .ends .now) (c .before .before .before .before .before .before .before .before .before .before .before .before .before .before .before .before .before .before .before .before .before .before .before .before .before .before .args .at + 1) 0) 0) refl (c .before .before .before .before .before .before .before .before .before .before .if3 .left)) (joined m (c .before .before .before .before .before .before .before .before .above4 .ensures) (product Parallel) (c .before .before .before .before .before .before .resume9 .ensures) (λ h e. omega (arith, j .less)) (c .before .before .before .before .before .before .before .before .before .before .before .before .before .before .before .before .before .before .before .before .before .before .before .before .before .before .pre .1 .0) (omega (arith, k .less)) (c .before .before .together .ensures))
+  returns-12 c = let k = child-parallel (c .before .before .before .before .before .before .before .before .before .before .before .before .before .before .before .before .before .before .before .before .before .before .before .before .before .before .pre .1 .1 .ready) (sym (c .before .before .before .before .before .before .before .before .before .before .before .before .before .before .before .before .before .before .before .before .kind-of .ensures) ∙ c .before .before .before .before .before .before .before .before .before .before .before .before .before .before .before .before .before .before .before .match .keys9) in let m = (made-need (c .before .before .before .before .before .before .before .before .before .before .before .before .before .before .before .before .before .before .before .before .before .before .before .before .before .before .args .base + roomFor (partAt (c .before .before .before .before .before .before .before .before .before .before .before .before .before .before .before .before .before .before .before .before .before .before .before .before .before .before .args .nodes .now) (c .before .before .before .before .before .before .before .before .before .before .before .before .before .before .before .before .before .before .before .before .before .before .before .before .before .before .args .at))) (c .before .before .before .before .before .before .before .before .before .before .before .before .before .before .resume8 .ensures) (omega (arith, k .less))) in let j = child-beside (c .before .before .before .before .before .before .before .before .before .before .before .before .before .before .before .before .before .before .before .before .before .before .before .before .before .before .pre .1 .1 .ready) (getD (c .before .before .before .before .before .before .before .before .before .before .before .before .before .before .before .before .before .before .before .before .before .before .before .before .before .before .args .ends .now) (c .before .before .before .before .before .before .before .before .before .before .before .before .before .before .before .before .before .before .before .before .before .before .before .before .before .before .args .at + 1) 0) refl (sym (c .before .before .before .before .before .before .before .before .before .before .before .before .before .before .before .before .before .before .before .before .kind-of .ensures) ∙ c .before .before .before .before .before .before .before .before .before .before .before .before .before .before .before .before .before .before .before .match .keys9) in resumed-both (c .before .before .before .before .before .before .before .before .before .before .before .before .before .before .before .before .before .before .before .before .before .before .before .before .before .before .pre .1 .1 .ready) (c .before .before .before .before .before .before .before .before .before .before .before .before .before .before .before .before .before .before .before .before .before .before .before .before .before .before .args .labels) (c .before .before .before .before .before .before .before .before .before .before .before .before .before .before .before .before .before .before .before .before .before .before .before .before .before .before .args .assumed) (getD (c .before .before .before .before .before .before .before .before .before .before .before .before .before .before .before .before .before .before .before .before .before .before .before .before .before .before .args .ends .now) (c .before .before .before .before .before .before .before .before .before .before .before .before .before .before .before .before .before .before .before .before .before .before .before .before .before .before .args .at + 1) 0) refl (sym (c .before .before .before .before .before .before .before .before .before .before .before .before .before .before .before .before .before .before .before .before .kind-of .ensures) ∙ c .before .before .before .before .before .before .before .before .before .before .before .before .before .before .before .before .before .before .before .match .keys9) (meets (resumable-at (c .before .before .before .before .before .before .before .before .before .before .before .before .before .before .before .before .before .before .before .before .before .before .before .before .before .before .pre .1 .1) k) (c .before .before .before .before .before .before .before .before .before .before .before .before .before .before .before .before .before .before .before .before .before .before .before .before .before .before .args .labels) (getD (c .before .before .before .before .before .before .before .before .before .before .before .before .before .before .before .before .before .before .before .before .before .before .before .before .before .before .args .pauses .now) (c .before .before .before .before .before .before .before .before .before .before .before .before .before .before .before .before .before .before .before .before .before .before .before .before .before .before .args .at + 1) 0) refl (c .before .before .before .before .before .before .before .before .before .before .before .before .before .before .before .before .if2 .left)) (meets (resumable-at (c .before .before .before .before .before .before .before .before .before .before .before .before .before .before .before .before .before .before .before .before .before .before .before .before .before .before .pre .1 .1) j) (c .before .before .before .before .before .before .before .before .before .before .before .before .before .before .before .before .before .before .before .before .before .before .before .before .before .before .args .labels) (getD (c .before .before .before .before .before .before .before .before .before .before .before .before .before .before .before .before .before .before .before .before .before .before .before .before .before .before .args .pauses .now) (getD (c .before .before .before .before .before .before .before .before .before .before .before .before .before .before .before .before .before .before .before .before .before .before .before .before .before .before .args .ends .now) (c .before .before .before .before .before .before .before .before .before .before .before .before .before .before .before .before .before .before .before .before .before .before .before .before .before .before .args .at + 1) 0) 0) refl (c .before .before .before .before .before .before .before .before .before .before .if3 .left)) (joined m (c .before .before .before .before .before .before .before .before .above4 .ensures) (omega (arith, k .less)) (product Parallel) (c .before .before .before .before .before .before .resume9 .ensures) (λ h e. omega (arith, j .less)) (c .before .before .before .before .before .before .before .before .before .before .before .before .before .before .before .before .before .before .before .before .before .before .before .before .before .before .pre .1 .0) (c .before .before .together .ensures))
 
   same-length-7 : resume-lts.Need-same-length-7 (claims t) (resume-at t) resume.Post
   same-length-7 c = returns-12 c .same

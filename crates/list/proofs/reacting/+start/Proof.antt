@@ -14,7 +14,7 @@ use Rattle.area.proofs.Made.{made-need}
 use Rattle.list.specs.Notes.{partAt}
 use Rattle.list.specs.Joins.{roomFor}
 use Rattle.list.proofs.Nodes.{no-kind}
-use Rattle.list.proofs.Joins.{altered, beside, top-within, beside-top, joined, followed-not, ending-small, followed-by}
+use Rattle.list.proofs.Joins.{altered, beside, beside-top, joined, followed-not, ending-small, followed-by}
 use Rattle.list.proofs.Starts.{place-few, emits-narrow, ready-at, child-signal, child-present, child-else, child-sequence, child-then, child-parallel, child-beside, child-loop, child-try, list-nothing, list-unused, list-pause, list-gotopause, list-emit, list-exit, list-signal, list-loop, list-try, list-then, list-else, list-sequence, list-parallel}
 use Prim.Native.Nat.{ℕ, _+_, _<_}
 use borrow.Fn.Kinds.{In}
@@ -102,16 +102,16 @@ module _ (t : ℕ) where
   alter-requires c κs = λ h. omega (arith, c .before .before .before .start .ensures .fits h, c .before .before .before .start .ensures .same)
 
   above-requires : start-lts.Need-above-requires (claims t) (start-at t) start.Post
-  above-requires c κs = let k = child-signal (c .before .before .before .before .before .before .before .before .before .before .before .before .before .before .before .pre .1 .1) (sym (c .before .before .before .before .before .before .before .before .before .before .before .kind-of .ensures) ∙ c .before .before .before .before .before .before .before .before .before .before .match .keys6) in let m = altered (Hide (c .before .before .before .before .before .before .before .before .before .before .before .before .operand-of .result)) (made-need (c .before .before .before .before .before .before .before .before .before .before .before .before .before .before .before .args .base + roomFor (partAt (c .before .before .before .before .before .before .before .before .before .before .before .before .before .before .before .args .nodes .now) (c .before .before .before .before .before .before .before .before .before .before .before .before .before .before .before .args .at))) (c .before .before .before .before .before .before .before .start .ensures) (omega (arith, k .less))) (c .before .before .before .alter .ensures) in λ h. omega (arith, m .fits h, m .same)
+  above-requires c κs = let k = child-signal (c .before .before .before .before .before .before .before .before .before .before .before .before .before .before .before .pre .1 .1) (sym (c .before .before .before .before .before .before .before .before .before .before .before .kind-of .ensures) ∙ c .before .before .before .before .before .before .before .before .before .before .match .keys6) in let m = altered (Hide (c .before .before .before .before .before .before .before .before .before .before .before .before .operand-of .result)) (made-need (c .before .before .before .before .before .before .before .before .before .before .before .before .before .before .before .args .base + roomFor (partAt (c .before .before .before .before .before .before .before .before .before .before .before .before .before .before .before .args .nodes .now) (c .before .before .before .before .before .before .before .before .before .before .before .before .before .before .before .args .at))) (c .before .before .before .before .before .before .before .start .ensures) (omega (arith, k .less))) (c .before .before .before .alter .ensures) in (omega (arith, (c .before .before .before .before .before .before .before .before .before .before .before .before .before .before .before .pre .1 .0), m .same), λ h. omega (arith, m .fits h, m .same))
 
   without-requires : start-lts.Need-without-requires (claims t) (start-at t) start.Post
   without-requires c κs = tt
 
   start-requires-2 : start-lts.Need-start-requires-2 (claims t) (start-at t) start.Post
-  start-requires-2 c κs = let k = child-signal (c .before .before .before .before .before .before .before .before .before .before .before .before .before .before .before .before .before .before .pre .1 .1) (sym (c .before .before .before .before .before .before .before .before .before .before .before .before .before .before .kind-of .ensures) ∙ c .before .before .before .before .before .before .before .before .before .before .before .before .before .match .keys6) in let m = altered (Hide (c .before .before .before .before .before .before .before .before .before .before .before .before .before .before .before .operand-of .result)) (made-need (c .before .before .before .before .before .before .before .before .before .before .before .before .before .before .before .before .before .before .args .base + roomFor (partAt (c .before .before .before .before .before .before .before .before .before .before .before .before .before .before .before .before .before .before .args .nodes .now) (c .before .before .before .before .before .before .before .before .before .before .before .before .before .before .before .before .before .before .args .at))) (c .before .before .before .before .before .before .before .before .before .before .start .ensures) (omega (arith, k .less))) (c .before .before .before .before .before .before .alter .ensures) in (omega (arith, c .before .before .before .before .before .before .before .before .before .before .before .before .before .before .before .before .before .before .pre .0, k .less), (top-within m (c .before .before .above .ensures), ready-at (c .before .before .before .before .before .before .before .before .before .before .before .before .before .before .before .before .before .before .pre .1 .1) k))
+  start-requires-2 c κs = let k = child-signal (c .before .before .before .before .before .before .before .before .before .before .before .before .before .before .before .before .before .before .pre .1 .1) (sym (c .before .before .before .before .before .before .before .before .before .before .before .before .before .before .kind-of .ensures) ∙ c .before .before .before .before .before .before .before .before .before .before .before .before .before .match .keys6) in let m = altered (Hide (c .before .before .before .before .before .before .before .before .before .before .before .before .before .before .before .operand-of .result)) (made-need (c .before .before .before .before .before .before .before .before .before .before .before .before .before .before .before .before .before .before .args .base + roomFor (partAt (c .before .before .before .before .before .before .before .before .before .before .before .before .before .before .before .before .before .before .args .nodes .now) (c .before .before .before .before .before .before .before .before .before .before .before .before .before .before .before .before .before .before .args .at))) (c .before .before .before .before .before .before .before .before .before .before .start .ensures) (omega (arith, k .less))) (c .before .before .before .before .before .before .alter .ensures) in (omega (arith, c .before .before .before .before .before .before .before .before .before .before .before .before .before .before .before .before .before .before .pre .0, k .less), (c .before .before .above .ensures .within, ready-at (c .before .before .before .before .before .before .before .before .before .before .before .before .before .before .before .before .before .before .pre .1 .1) k))
 
   either-requires : start-lts.Need-either-requires (claims t) (start-at t) start.Post
-  either-requires c κs = let k = child-signal (c .before .before .before .before .before .before .before .before .before .before .before .before .before .before .before .before .before .before .before .before .before .before .pre .1 .1) (sym (c .before .before .before .before .before .before .before .before .before .before .before .before .before .before .before .before .before .before .kind-of .ensures) ∙ c .before .before .before .before .before .before .before .before .before .before .before .before .before .before .before .before .before .match .keys6) in let m = altered (Hide (c .before .before .before .before .before .before .before .before .before .before .before .before .before .before .before .before .before .before .before .operand-of .result)) (made-need (c .before .before .before .before .before .before .before .before .before .before .before .before .before .before .before .before .before .before .before .before .before .before .args .base + roomFor (partAt (c .before .before .before .before .before .before .before .before .before .before .before .before .before .before .before .before .before .before .before .before .before .before .args .nodes .now) (c .before .before .before .before .before .before .before .before .before .before .before .before .before .before .before .before .before .before .before .before .before .before .args .at))) (c .before .before .before .before .before .before .before .before .before .before .before .before .before .before .start .ensures) (omega (arith, k .less))) (c .before .before .before .before .before .before .before .before .before .before .alter .ensures) in beside-top m (c .before .before .before .before .before .before .above .ensures) (c .before .before .before .start2 .ensures) (λ h e. omega (arith, k .less))
+  either-requires c κs = let k = child-signal (c .before .before .before .before .before .before .before .before .before .before .before .before .before .before .before .before .before .before .before .before .before .before .pre .1 .1) (sym (c .before .before .before .before .before .before .before .before .before .before .before .before .before .before .before .before .before .before .kind-of .ensures) ∙ c .before .before .before .before .before .before .before .before .before .before .before .before .before .before .before .before .before .match .keys6) in let m = altered (Hide (c .before .before .before .before .before .before .before .before .before .before .before .before .before .before .before .before .before .before .before .operand-of .result)) (made-need (c .before .before .before .before .before .before .before .before .before .before .before .before .before .before .before .before .before .before .before .before .before .before .args .base + roomFor (partAt (c .before .before .before .before .before .before .before .before .before .before .before .before .before .before .before .before .before .before .before .before .before .before .args .nodes .now) (c .before .before .before .before .before .before .before .before .before .before .before .before .before .before .before .before .before .before .before .before .before .before .args .at))) (c .before .before .before .before .before .before .before .before .before .before .before .before .before .before .start .ensures) (omega (arith, k .less))) (c .before .before .before .before .before .before .before .before .before .before .alter .ensures) in beside-top m (c .before .before .before .before .before .before .above .ensures) (omega (arith, k .less)) (c .before .before .before .start2 .ensures) (λ h e. omega (arith, k .less))
 
   contains-requires : start-lts.Need-contains-requires (claims t) (start-at t) start.Post
   contains-requires c κs = tt
@@ -168,7 +168,7 @@ module _ (t : ℕ) where
   start-requires-7 c κs = let k = child-parallel (c .before .before .before .before .before .before .pre .1 .1) (sym (c .before .before .kind-of .ensures) ∙ c .before .match .keys9) in (omega (arith, c .before .before .before .before .before .before .pre .0, k .less), ((c .before .before .before .before .before .before .pre .1 .0), ready-at (c .before .before .before .before .before .before .pre .1 .1) k))
 
   above-requires-2 : start-lts.Need-above-requires-2 (claims t) (start-at t) start.Post
-  above-requires-2 c κs = let k = child-parallel (c .before .before .before .before .before .before .before .before .before .before .pre .1 .1) (sym (c .before .before .before .before .before .before .kind-of .ensures) ∙ c .before .before .before .before .before .match .keys9) in let m = (made-need (c .before .before .before .before .before .before .before .before .before .before .args .base + roomFor (partAt (c .before .before .before .before .before .before .before .before .before .before .args .nodes .now) (c .before .before .before .before .before .before .before .before .before .before .args .at))) (c .before .before .before .start7 .ensures) (omega (arith, k .less))) in λ h. omega (arith, m .fits h, m .same)
+  above-requires-2 c κs = let k = child-parallel (c .before .before .before .before .before .before .before .before .before .before .pre .1 .1) (sym (c .before .before .before .before .before .before .kind-of .ensures) ∙ c .before .before .before .before .before .match .keys9) in let m = (made-need (c .before .before .before .before .before .before .before .before .before .before .args .base + roomFor (partAt (c .before .before .before .before .before .before .before .before .before .before .args .nodes .now) (c .before .before .before .before .before .before .before .before .before .before .args .at))) (c .before .before .before .start7 .ensures) (omega (arith, k .less))) in (omega (arith, (c .before .before .before .before .before .before .before .before .before .before .pre .1 .0), m .same), λ h. omega (arith, m .fits h, m .same))
 
   mul-start-3 : start-lts.Need-mul-start-3 (claims t) (start-at t) start.Post
   mul-start-3 c = omega (arith, place-few (ready-at (c .before .before .before .before .before .before .before .before .before .before .before .pre .1 .1) (child-parallel (c .before .before .before .before .before .before .before .before .before .before .before .pre .1 .1) (sym (c .before .before .before .before .before .before .before .kind-of .ensures) ∙ c .before .before .before .before .before .before .match .keys9))))
@@ -180,10 +180,10 @@ module _ (t : ℕ) where
   cast-start-3 c = omega (arith, place-few (ready-at (c .before .before .before .before .before .before .before .before .before .before .before .before .pre .1 .1) (child-beside (c .before .before .before .before .before .before .before .before .before .before .before .before .pre .1 .1) (getD (c .before .before .before .before .before .before .before .before .before .before .before .before .args .ends .now) (c .before .before .before .before .before .before .before .before .before .before .before .before .args .at + 1) 0) refl (sym (c .before .before .before .before .before .before .before .before .kind-of .ensures) ∙ c .before .before .before .before .before .before .before .match .keys9))))
 
   start-requires-8 : start-lts.Need-start-requires-8 (claims t) (start-at t) start.Post
-  start-requires-8 c κs = let k = child-parallel (c .before .before .before .before .before .before .before .before .before .before .before .before .before .pre .1 .1) (sym (c .before .before .before .before .before .before .before .before .before .kind-of .ensures) ∙ c .before .before .before .before .before .before .before .before .match .keys9) in let m = (made-need (c .before .before .before .before .before .before .before .before .before .before .before .before .before .args .base + roomFor (partAt (c .before .before .before .before .before .before .before .before .before .before .before .before .before .args .nodes .now) (c .before .before .before .before .before .before .before .before .before .before .before .before .before .args .at))) (c .before .before .before .before .before .before .start7 .ensures) (omega (arith, k .less))) in let j = child-beside (c .before .before .before .before .before .before .before .before .before .before .before .before .before .pre .1 .1) (getD (c .before .before .before .before .before .before .before .before .before .before .before .before .before .args .ends .now) (c .before .before .before .before .before .before .before .before .before .before .before .before .before .args .at + 1) 0) refl (sym (c .before .before .before .before .before .before .before .before .before .kind-of .ensures) ∙ c .before .before .before .before .before .before .before .before .match .keys9) in (omega (arith, c .before .before .before .before .before .before .before .before .before .before .before .before .before .pre .0, j .less), (top-within m (c .before .before .above2 .ensures), ready-at (c .before .before .before .before .before .before .before .before .before .before .before .before .before .pre .1 .1) j))
+  start-requires-8 c κs = let k = child-parallel (c .before .before .before .before .before .before .before .before .before .before .before .before .before .pre .1 .1) (sym (c .before .before .before .before .before .before .before .before .before .kind-of .ensures) ∙ c .before .before .before .before .before .before .before .before .match .keys9) in let m = (made-need (c .before .before .before .before .before .before .before .before .before .before .before .before .before .args .base + roomFor (partAt (c .before .before .before .before .before .before .before .before .before .before .before .before .before .args .nodes .now) (c .before .before .before .before .before .before .before .before .before .before .before .before .before .args .at))) (c .before .before .before .before .before .before .start7 .ensures) (omega (arith, k .less))) in let j = child-beside (c .before .before .before .before .before .before .before .before .before .before .before .before .before .pre .1 .1) (getD (c .before .before .before .before .before .before .before .before .before .before .before .before .before .args .ends .now) (c .before .before .before .before .before .before .before .before .before .before .before .before .before .args .at + 1) 0) refl (sym (c .before .before .before .before .before .before .before .before .before .kind-of .ensures) ∙ c .before .before .before .before .before .before .before .before .match .keys9) in (omega (arith, c .before .before .before .before .before .before .before .before .before .before .before .before .before .pre .0, j .less), (c .before .before .above2 .ensures .within, ready-at (c .before .before .before .before .before .before .before .before .before .before .before .before .before .pre .1 .1) j))
 
   together-requires : start-lts.Need-together-requires (claims t) (start-at t) start.Post
-  together-requires c κs = let k = child-parallel (c .before .before .before .before .before .before .before .before .before .before .before .before .before .before .before .before .before .pre .1 .1) (sym (c .before .before .before .before .before .before .before .before .before .before .before .before .before .kind-of .ensures) ∙ c .before .before .before .before .before .before .before .before .before .before .before .before .match .keys9) in let m = (made-need (c .before .before .before .before .before .before .before .before .before .before .before .before .before .before .before .before .before .args .base + roomFor (partAt (c .before .before .before .before .before .before .before .before .before .before .before .before .before .before .before .before .before .args .nodes .now) (c .before .before .before .before .before .before .before .before .before .before .before .before .before .before .before .before .before .args .at))) (c .before .before .before .before .before .before .before .before .before .before .start7 .ensures) (omega (arith, k .less))) in let j = child-beside (c .before .before .before .before .before .before .before .before .before .before .before .before .before .before .before .before .before .pre .1 .1) (getD (c .before .before .before .before .before .before .before .before .before .before .before .before .before .before .before .before .before .args .ends .now) (c .before .before .before .before .before .before .before .before .before .before .before .before .before .before .before .before .before .args .at + 1) 0) refl (sym (c .before .before .before .before .before .before .before .before .before .before .before .before .before .kind-of .ensures) ∙ c .before .before .before .before .before .before .before .before .before .before .before .before .match .keys9) in beside-top m (c .before .before .before .before .before .before .above2 .ensures) (c .before .before .before .start8 .ensures) (λ h e. omega (arith, j .less))
+  together-requires c κs = let k = child-parallel (c .before .before .before .before .before .before .before .before .before .before .before .before .before .before .before .before .before .pre .1 .1) (sym (c .before .before .before .before .before .before .before .before .before .before .before .before .before .kind-of .ensures) ∙ c .before .before .before .before .before .before .before .before .before .before .before .before .match .keys9) in let m = (made-need (c .before .before .before .before .before .before .before .before .before .before .before .before .before .before .before .before .before .args .base + roomFor (partAt (c .before .before .before .before .before .before .before .before .before .before .before .before .before .before .before .before .before .args .nodes .now) (c .before .before .before .before .before .before .before .before .before .before .before .before .before .before .before .before .before .args .at))) (c .before .before .before .before .before .before .before .before .before .before .start7 .ensures) (omega (arith, k .less))) in let j = child-beside (c .before .before .before .before .before .before .before .before .before .before .before .before .before .before .before .before .before .pre .1 .1) (getD (c .before .before .before .before .before .before .before .before .before .before .before .before .before .before .before .before .before .args .ends .now) (c .before .before .before .before .before .before .before .before .before .before .before .before .before .before .before .before .before .args .at + 1) 0) refl (sym (c .before .before .before .before .before .before .before .before .before .before .before .before .before .kind-of .ensures) ∙ c .before .before .before .before .before .before .before .before .before .before .before .before .match .keys9) in beside-top m (c .before .before .before .before .before .before .above2 .ensures) (omega (arith, k .less)) (c .before .before .before .start8 .ensures) (λ h e. omega (arith, j .less))
 
   start-requires-9 : start-lts.Need-start-requires-9 (claims t) (start-at t) start.Post
   start-requires-9 c κs = let k = child-loop (c .before .before .before .before .before .before .pre .1 .1) (sym (c .before .before .kind-of .ensures) ∙ c .before .match .keys10) in (omega (arith, c .before .before .before .before .before .before .pre .0, k .less), ((c .before .before .before .before .before .before .pre .1 .0), ready-at (c .before .before .before .before .before .before .pre .1 .1) k))
@@ -234,7 +234,7 @@ module _ (t : ℕ) where
   same-length-6 c = returns-6 c .same
 
   returns-7 : start-lts.Need-returns-7 (claims t) (start-at t) start.Post
-  returns-7 c = let k = child-signal (c .before .before .before .before .before .before .before .before .before .before .before .before .before .before .before .before .before .before .before .before .before .before .before .before .before .pre .1 .1) (sym (c .before .before .before .before .before .before .before .before .before .before .before .before .before .before .before .before .before .before .before .before .before .kind-of .ensures) ∙ c .before .before .before .before .before .before .before .before .before .before .before .before .before .before .before .before .before .before .before .before .match .keys6) in let m = altered (Hide (c .before .before .before .before .before .before .before .before .before .before .before .before .before .before .before .before .before .before .before .before .before .before .operand-of .result)) (made-need (c .before .before .before .before .before .before .before .before .before .before .before .before .before .before .before .before .before .before .before .before .before .before .before .before .before .args .base + roomFor (partAt (c .before .before .before .before .before .before .before .before .before .before .before .before .before .before .before .before .before .before .before .before .before .before .before .before .before .args .nodes .now) (c .before .before .before .before .before .before .before .before .before .before .before .before .before .before .before .before .before .before .before .before .before .before .before .before .before .args .at))) (c .before .before .before .before .before .before .before .before .before .before .before .before .before .before .before .before .before .start .ensures) (omega (arith, k .less))) (c .before .before .before .before .before .before .before .before .before .before .before .before .before .alter .ensures) in list-signal (c .before .before .before .before .before .before .before .before .before .before .before .before .before .before .before .before .before .before .before .before .before .before .before .before .before .pre .1 .1) (c .before .before .before .before .before .before .before .before .before .before .before .before .before .before .before .before .before .before .before .before .before .before .before .before .before .args .assumed) started (sym (c .before .before .before .before .before .before .before .before .before .before .before .before .before .before .before .before .before .before .before .before .before .kind-of .ensures) ∙ c .before .before .before .before .before .before .before .before .before .before .before .before .before .before .before .before .before .before .before .before .match .keys6) (c .before .before .before .before .before .before .before .before .before .before .before .before .before .before .before .before .before .before .before .before .before .before .operand-of .result) _ _ (c .before .before .before .before .before .before .before .before .before .before .before .before .before .before .before .before .before .before .before .before .before .before .operand-of .ensures) (c .before .before .before .before .before .before .before .before .before .before .before .before .before .before .before .before .before .before .before .with-number .ensures) (c .before .before .before .before .before .before .before .before .without .ensures) (joined m (c .before .before .before .before .before .before .before .before .before .above .ensures) _++_ (c .before .before .before .before .before .before .start2 .ensures) (λ h e. omega (arith, k .less)) (c .before .before .before .before .before .before .before .before .before .before .before .before .before .before .before .before .before .before .before .before .before .before .before .before .before .pre .1 .0) (omega (arith, k .less)) (c .before .before .either .ensures))
+  returns-7 c = let k = child-signal (c .before .before .before .before .before .before .before .before .before .before .before .before .before .before .before .before .before .before .before .before .before .before .before .before .before .pre .1 .1) (sym (c .before .before .before .before .before .before .before .before .before .before .before .before .before .before .before .before .before .before .before .before .before .kind-of .ensures) ∙ c .before .before .before .before .before .before .before .before .before .before .before .before .before .before .before .before .before .before .before .before .match .keys6) in let m = altered (Hide (c .before .before .before .before .before .before .before .before .before .before .before .before .before .before .before .before .before .before .before .before .before .before .operand-of .result)) (made-need (c .before .before .before .before .before .before .before .before .before .before .before .before .before .before .before .before .before .before .before .before .before .before .before .before .before .args .base + roomFor (partAt (c .before .before .before .before .before .before .before .before .before .before .before .before .before .before .before .before .before .before .before .before .before .before .before .before .before .args .nodes .now) (c .before .before .before .before .before .before .before .before .before .before .before .before .before .before .before .before .before .before .before .before .before .before .before .before .before .args .at))) (c .before .before .before .before .before .before .before .before .before .before .before .before .before .before .before .before .before .start .ensures) (omega (arith, k .less))) (c .before .before .before .before .before .before .before .before .before .before .before .before .before .alter .ensures) in list-signal (c .before .before .before .before .before .before .before .before .before .before .before .before .before .before .before .before .before .before .before .before .before .before .before .before .before .pre .1 .1) (c .before .before .before .before .before .before .before .before .before .before .before .before .before .before .before .before .before .before .before .before .before .before .before .before .before .args .assumed) started (sym (c .before .before .before .before .before .before .before .before .before .before .before .before .before .before .before .before .before .before .before .before .before .kind-of .ensures) ∙ c .before .before .before .before .before .before .before .before .before .before .before .before .before .before .before .before .before .before .before .before .match .keys6) (c .before .before .before .before .before .before .before .before .before .before .before .before .before .before .before .before .before .before .before .before .before .before .operand-of .result) _ _ (c .before .before .before .before .before .before .before .before .before .before .before .before .before .before .before .before .before .before .before .before .before .before .operand-of .ensures) (c .before .before .before .before .before .before .before .before .before .before .before .before .before .before .before .before .before .before .before .with-number .ensures) (c .before .before .before .before .before .before .before .before .without .ensures) (joined m (c .before .before .before .before .before .before .before .before .before .above .ensures) (omega (arith, k .less)) _++_ (c .before .before .before .before .before .before .start2 .ensures) (λ h e. omega (arith, k .less)) (c .before .before .before .before .before .before .before .before .before .before .before .before .before .before .before .before .before .before .before .before .before .before .before .before .before .pre .1 .0) (c .before .before .either .ensures))
 
   same-length-7 : start-lts.Need-same-length-7 (claims t) (start-at t) start.Post
   same-length-7 c = returns-7 c .same
@@ -258,7 +258,7 @@ module _ (t : ℕ) where
   same-length-10 c = returns-10 c .same
 
   returns-11 : start-lts.Need-returns-11 (claims t) (start-at t) start.Post
-  returns-11 c = let k = child-parallel (c .before .before .before .before .before .before .before .before .before .before .before .before .before .before .before .before .before .before .before .before .pre .1 .1) (sym (c .before .before .before .before .before .before .before .before .before .before .before .before .before .before .before .before .kind-of .ensures) ∙ c .before .before .before .before .before .before .before .before .before .before .before .before .before .before .before .match .keys9) in let m = (made-need (c .before .before .before .before .before .before .before .before .before .before .before .before .before .before .before .before .before .before .before .before .args .base + roomFor (partAt (c .before .before .before .before .before .before .before .before .before .before .before .before .before .before .before .before .before .before .before .before .args .nodes .now) (c .before .before .before .before .before .before .before .before .before .before .before .before .before .before .before .before .before .before .before .before .args .at))) (c .before .before .before .before .before .before .before .before .before .before .before .before .before .start7 .ensures) (omega (arith, k .less))) in let j = child-beside (c .before .before .before .before .before .before .before .before .before .before .before .before .before .before .before .before .before .before .before .before .pre .1 .1) (getD (c .before .before .before .before .before .before .before .before .before .before .before .before .before .before .before .before .before .before .before .before .args .ends .now) (c .before .before .before .before .before .before .before .before .before .before .before .before .before .before .before .before .before .before .before .before .args .at + 1) 0) refl (sym (c .before .before .before .before .before .before .before .before .before .before .before .before .before .before .before .before .kind-of .ensures) ∙ c .before .before .before .before .before .before .before .before .before .before .before .before .before .before .before .match .keys9) in list-parallel (c .before .before .before .before .before .before .before .before .before .before .before .before .before .before .before .before .before .before .before .before .pre .1 .1) (c .before .before .before .before .before .before .before .before .before .before .before .before .before .before .before .before .before .before .before .before .args .assumed) (getD (c .before .before .before .before .before .before .before .before .before .before .before .before .before .before .before .before .before .before .before .before .args .ends .now) (c .before .before .before .before .before .before .before .before .before .before .before .before .before .before .before .before .before .before .before .before .args .at + 1) 0) refl (sym (c .before .before .before .before .before .before .before .before .before .before .before .before .before .before .before .before .kind-of .ensures) ∙ c .before .before .before .before .before .before .before .before .before .before .before .before .before .before .before .match .keys9) (joined m (c .before .before .before .before .before .before .before .before .before .above2 .ensures) (product Parallel) (c .before .before .before .before .before .before .start8 .ensures) (λ h e. omega (arith, j .less)) (c .before .before .before .before .before .before .before .before .before .before .before .before .before .before .before .before .before .before .before .before .pre .1 .0) (omega (arith, k .less)) (c .before .before .together .ensures))
+  returns-11 c = let k = child-parallel (c .before .before .before .before .before .before .before .before .before .before .before .before .before .before .before .before .before .before .before .before .pre .1 .1) (sym (c .before .before .before .before .before .before .before .before .before .before .before .before .before .before .before .before .kind-of .ensures) ∙ c .before .before .before .before .before .before .before .before .before .before .before .before .before .before .before .match .keys9) in let m = (made-need (c .before .before .before .before .before .before .before .before .before .before .before .before .before .before .before .before .before .before .before .before .args .base + roomFor (partAt (c .before .before .before .before .before .before .before .before .before .before .before .before .before .before .before .before .before .before .before .before .args .nodes .now) (c .before .before .before .before .before .before .before .before .before .before .before .before .before .before .before .before .before .before .before .before .args .at))) (c .before .before .before .before .before .before .before .before .before .before .before .before .before .start7 .ensures) (omega (arith, k .less))) in let j = child-beside (c .before .before .before .before .before .before .before .before .before .before .before .before .before .before .before .before .before .before .before .before .pre .1 .1) (getD (c .before .before .before .before .before .before .before .before .before .before .before .before .before .before .before .before .before .before .before .before .args .ends .now) (c .before .before .before .before .before .before .before .before .before .before .before .before .before .before .before .before .before .before .before .before .args .at + 1) 0) refl (sym (c .before .before .before .before .before .before .before .before .before .before .before .before .before .before .before .before .kind-of .ensures) ∙ c .before .before .before .before .before .before .before .before .before .before .before .before .before .before .before .match .keys9) in list-parallel (c .before .before .before .before .before .before .before .before .before .before .before .before .before .before .before .before .before .before .before .before .pre .1 .1) (c .before .before .before .before .before .before .before .before .before .before .before .before .before .before .before .before .before .before .before .before .args .assumed) (getD (c .before .before .before .before .before .before .before .before .before .before .before .before .before .before .before .before .before .before .before .before .args .ends .now) (c .before .before .before .before .before .before .before .before .before .before .before .before .before .before .before .before .before .before .before .before .args .at + 1) 0) refl (sym (c .before .before .before .before .before .before .before .before .before .before .before .before .before .before .before .before .kind-of .ensures) ∙ c .before .before .before .before .before .before .before .before .before .before .before .before .before .before .before .match .keys9) (joined m (c .before .before .before .before .before .before .before .before .before .above2 .ensures) (omega (arith, k .less)) (product Parallel) (c .before .before .before .before .before .before .start8 .ensures) (λ h e. omega (arith, j .less)) (c .before .before .before .before .before .before .before .before .before .before .before .before .before .before .before .before .before .before .before .before .pre .1 .0) (c .before .before .together .ensures))
 
   same-length-11 : start-lts.Need-same-length-11 (claims t) (start-at t) start.Post
   same-length-11 c = returns-11 c .same
