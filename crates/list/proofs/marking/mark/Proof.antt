@@ -15,7 +15,7 @@ abbrev μ-loop : tie.MeasureT-loop
 μ-loop nodes ends₀ nests₀ pauses₀ at₀ ends nests pauses at = at
 
 loop-holds : tie.Need-loop-holds Inv-loop μ-loop
-loop-holds c = (omega arith, refl, refl, refl, no-notes _ (c .before .before .before .args .nodes .now) _ _ _ (omega arith) (omega (arith, c .before .before .before .pre .1)) (omega (arith, c .before .before .before .pre .2)))
+loop-holds c = let s = c .before .before .before in (omega arith, refl, refl, refl, no-notes _ (s .args .nodes .now) _ _ _ (omega arith) (omega (arith, s .pre .1)) (omega (arith, s .pre .2)))
 
 sub-at : tie.Need-sub-at Inv-loop μ-loop
 sub-at c = omega arith
