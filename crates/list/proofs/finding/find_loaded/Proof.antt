@@ -17,19 +17,25 @@ refusal-requires : tie.Need-refusal-requires
 refusal-requires c κs = search needs
 
 returns : tie.Need-returns
-returns c = let s = c .before .before .before .before .before .before .before in finds-refused (s .args .table .now) (s .args .nodes .now) _ (c .before .before .before .load .result) (c .before .before .before .load .ensures) (s .args .assumed) (s .args .mark) (s .args .labels) _ _ (s .args .area .now) (c .before .enum-told .given .1) (c .refusal .ensures)
+returns c =
+    let s = c .before .before .before .before .before .before .before in
+    finds-refused (s .args .table .now) (s .args .nodes .now) _ (c .before .before .before .load .result) (c .before .before .before .load .ensures) (s .args .assumed) (s .args .mark) (s .args .labels) _ _ (s .args .area .now) (c .before .enum-told .given .1) (c .refusal .ensures)
 
 cast-find-nodes : tie.Need-cast-find-nodes
 cast-find-nodes c = search needs
 
 find-nodes-requires : tie.Need-find-nodes-requires
-find-nodes-requires c κs = let s = c .before .before .before .before .before .before .before .before .before in (loaded-sound (s .args .table .now) (s .args .nodes .now) _ (c .before .before .before .before .before .load .result) (c .before .before .before .before .before .load .ensures) (c .before .before .before .checked .given .0 .0) (c .before .before .before .checked .given .1), s .pre)
+find-nodes-requires c κs =
+    let s = c .before .before .before .before .before .before .before .before .before in
+    (loaded-sound (s .args .table .now) (s .args .nodes .now) _ (c .before .before .before .before .before .load .result) (c .before .before .before .before .before .load .ensures) (c .before .before .before .checked .given .0 .0) (c .before .before .before .checked .given .1), s .pre)
 
 same-length : tie.Need-same-length
 same-length c = search needs
 
 returns-2 : tie.Need-returns-2
-returns-2 c = let s = c .before .before .before .before .before .before .before .before .before .before .before .before in finds-accepted (s .args .table .now) (s .args .nodes .now) _ (c .before .before .before .before .before .before .before .before .load .result) (c .before .before .before .before .before .before .before .before .load .ensures) (c .before .before .before .before .before .before .checked .given .0 .0) (c .before .before .before .before .before .before .checked .given .1) (s .args .assumed) (s .args .mark) (s .args .labels) (c .before .before .find-nodes .ensures)
+returns-2 c =
+    let s = c .before .before .before .before .before .before .before .before .before .before .before .before in
+    finds-accepted (s .args .table .now) (s .args .nodes .now) _ (c .before .before .before .before .before .before .before .before .load .result) (c .before .before .before .before .before .before .before .before .load .ensures) (c .before .before .before .before .before .before .checked .given .0 .0) (c .before .before .before .before .before .before .checked .given .1) (s .args .assumed) (s .args .mark) (s .args .labels) (c .before .before .find-nodes .ensures)
 
 pub find-loaded-spec : {M : Type 1} → statement M
 find-loaded-spec =

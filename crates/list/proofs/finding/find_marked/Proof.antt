@@ -12,16 +12,22 @@ element-copy-out-if1 : tie.Need-element-copy-out-if1
 element-copy-out-if1 c = search needs
 
 returns : tie.Need-returns
-returns c = let s = c .before .before .before .before .before .before .before in finds-deep _ _ (s .args .assumed) _ (s .args .area .now) (marked-nest (s .pre .0) (c .before .before .mark-front .ensures) _ refl) (c .if1 .taken)
+returns c =
+    let s = c .before .before .before .before .before .before .before in
+    finds-deep _ _ (s .args .assumed) _ (s .args .area .now) (marked-nest (s .pre .0) (c .before .before .mark-front .ensures) _ refl) (c .if1 .taken)
 
 reactions-in-requires : tie.Need-reactions-in-requires
-reactions-in-requires c κs = let s = c .before .before .before .before .before .before .before .before .before .before in (s .pre .1, marked-resumable (s .pre .0) (c .before .before .before .before .before .mark-front .ensures))
+reactions-in-requires c κs =
+    let s = c .before .before .before .before .before .before .before .before .before .before in
+    (s .pre .1, marked-resumable (s .pre .0) (c .before .before .before .before .before .mark-front .ensures))
 
 same-length : tie.Need-same-length
 same-length c = search needs
 
 returns-2 : tie.Need-returns-2
-returns-2 c = let s = c .before .before .before .before .before .before .before .before .before .before .before .before .before .before in finds-crowded _ _ (s .args .assumed) _ (marked-nest (s .pre .0) (c .before .before .before .before .before .before .before .before .before .mark-front .ensures) _ refl) (c .before .before .before .before .before .before .before .if1 .left) (c .before .before .before .reactions-in .ensures) (c .if2 .taken)
+returns-2 c =
+    let s = c .before .before .before .before .before .before .before .before .before .before .before .before .before .before in
+    finds-crowded _ _ (s .args .assumed) _ (marked-nest (s .pre .0) (c .before .before .before .before .before .before .before .before .before .mark-front .ensures) _ refl) (c .before .before .before .before .before .before .before .if1 .left) (c .before .before .before .reactions-in .ensures) (c .if2 .taken)
 
 cast-t27 : tie.Need-cast-t27
 cast-t27 c = search needs
@@ -30,7 +36,9 @@ same-length-2 : tie.Need-same-length-2
 same-length-2 c = search needs
 
 returns-3 : tie.Need-returns-3
-returns-3 c = let s = c .before .before .before .before .before .before .before .before .before .before .before .before .before .before in finds-listed _ _ (s .args .assumed) _ (marked-nest (s .pre .0) (c .before .before .before .before .before .before .before .before .before .mark-front .ensures) _ refl) (c .before .before .before .before .before .before .before .if1 .left) (c .before .before .before .reactions-in .ensures) (c .if2 .left)
+returns-3 c =
+    let s = c .before .before .before .before .before .before .before .before .before .before .before .before .before .before in
+    finds-listed _ _ (s .args .assumed) _ (marked-nest (s .pre .0) (c .before .before .before .before .before .before .before .before .before .mark-front .ensures) _ refl) (c .before .before .before .before .before .before .before .if1 .left) (c .before .before .before .reactions-in .ensures) (c .if2 .left)
 
 pub find-marked-spec : {M : Type 1} → statement M
 find-marked-spec =

@@ -13,7 +13,9 @@ same-length : tie.Need-same-length
 same-length c = search needs
 
 returns : tie.Need-returns
-returns c = let s = c .before .before .before .before .before .before in in-start _ (s .args .assumed) (s .args .mark) (s .args .labels) (c .before .before .before .before .if1 .taken) (made-need 7940 (c .before .before .start .ensures) (omega (arith, s .pre .ready .whole .shallow)))
+returns c =
+    let s = c .before .before .before .before .before .before in
+    in-start _ (s .args .assumed) (s .args .mark) (s .args .labels) (c .before .before .before .before .if1 .taken) (made-need 7940 (c .before .before .start .ensures) (omega (arith, s .pre .ready .whole .shallow)))
 
 resume-requires : tie.Need-resume-requires
 resume-requires c κs = search needs
@@ -22,7 +24,9 @@ same-length-2 : tie.Need-same-length-2
 same-length-2 c = search needs
 
 returns-2 : tie.Need-returns-2
-returns-2 c = let s = c .before .before .before .before .before .before in in-resumed _ (s .args .assumed) (s .args .mark) (s .args .labels) (c .before .before .before .before .if1 .left) (made-need 7940 (c .before .before .resume .ensures) (omega (arith, s .pre .ready .whole .shallow)))
+returns-2 c =
+    let s = c .before .before .before .before .before .before in
+    in-resumed _ (s .args .assumed) (s .args .mark) (s .args .labels) (c .before .before .before .before .if1 .left) (made-need 7940 (c .before .before .resume .ensures) (omega (arith, s .pre .ready .whole .shallow)))
 
 pub reactions-spec : {M : Type 1} → statement M
 reactions-spec =

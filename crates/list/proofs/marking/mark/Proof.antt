@@ -15,19 +15,26 @@ abbrev μ-loop : tie.MeasureT-loop
 μ-loop nodes ends₀ nests₀ pauses₀ at₀ ends nests pauses at = at
 
 loop-holds : tie.Need-loop-holds Inv-loop μ-loop
-loop-holds c = let s = c .before .before .before in (omega arith, refl, refl, refl, no-notes _ (s .args .nodes .now) _ _ _ (omega arith) (omega (arith, s .pre .1)) (omega (arith, s .pre .2)))
+loop-holds c =
+    let s = c .before .before .before in
+    (omega arith, refl, refl, refl, no-notes _ (s .args .nodes .now) _ _ _ (omega arith) (omega (arith, s .pre .1)) (omega (arith, s .pre .2)))
 
 sub-at : tie.Need-sub-at Inv-loop μ-loop
 sub-at c = omega arith
 
 mark-at-requires : tie.Need-mark-at-requires Inv-loop μ-loop
-mark-at-requires c κs = let v = c .before .before .before .before .loop .inv in (omega (arith, v .0, v .1), omega (arith, v .1, c .before .before .before .before .before .before .before .before .pre .0), noted-as (omega arith) (sym (v .1)) (v .4))
+mark-at-requires c κs =
+    let v = c .before .before .before .before .loop .inv in
+    (omega (arith, v .0, v .1), omega (arith, v .1, c .before .before .before .before .before .before .before .before .pre .0), noted-as (omega arith) (sym (v .1)) (v .4))
 
 loop-less : tie.Need-loop-less Inv-loop μ-loop
 loop-less c = omega arith
 
 loop-again : tie.Need-loop-again Inv-loop μ-loop
-loop-again c = let v = c .before .before .before .before .before .before .before .before .before .before .before .loop .inv in let k = c .before .before .before .before .before .before .mark-at .kept in (omega arith, k .1 .0 ∙ v .1, k .1 .1 .0 ∙ v .2, k .1 .1 .1 .0 ∙ v .3, noted-as refl (v .1) (c .before .before .before .before .before .before .mark-at .ensures))
+loop-again c =
+    let v = c .before .before .before .before .before .before .before .before .before .before .before .loop .inv in
+    let k = c .before .before .before .before .before .before .mark-at .kept in
+    (omega arith, k .1 .0 ∙ v .1, k .1 .1 .0 ∙ v .2, k .1 .1 .1 .0 ∙ v .3, noted-as refl (v .1) (c .before .before .before .before .before .before .mark-at .ensures))
 
 same-length : tie.Need-same-length Inv-loop μ-loop
 same-length c = c .before .loop .inv .1

@@ -26,43 +26,147 @@ singleton-requires : tie.Need-singleton-requires
 singleton-requires c κs = search needs
 
 note-none-requires : tie.Need-note-none-requires
-note-none-requires c κs = let s = c .before .before .before .before .before .before .before .before .before .before .before in let n = s .pre .2 in let h = s .pre .0 in let k = s .pre .1 in let i = n .long-ends in let j = n .long-nests in let l = n .long-labels in record { in-ends = omega arith; in-nests = omega arith; in-labels = omega arith; short = omega arith }
+note-none-requires c κs =
+    let s = c .before .before .before .before .before .before .before .before .before .before .before in
+    let n = s .pre .2 in
+    let h = s .pre .0 in
+    let k = s .pre .1 in
+    let i = n .long-ends in
+    let j = n .long-nests in
+    let l = n .long-labels in
+    record { in-ends = omega arith; in-nests = omega arith; in-labels = omega arith; short = omega arith }
 
 note-none-requires-2 : tie.Need-note-none-requires-2
-note-none-requires-2 c κs = let s = c .before .before .before .before .before .before .before .before .before .before .before in let n = s .pre .2 in let h = s .pre .0 in let k = s .pre .1 in let i = n .long-ends in let j = n .long-nests in let l = n .long-labels in record { in-ends = omega arith; in-nests = omega arith; in-labels = omega arith; short = omega arith }
+note-none-requires-2 c κs =
+    let s = c .before .before .before .before .before .before .before .before .before .before .before in
+    let n = s .pre .2 in
+    let h = s .pre .0 in
+    let k = s .pre .1 in
+    let i = n .long-ends in
+    let j = n .long-nests in
+    let l = n .long-labels in
+    record { in-ends = omega arith; in-nests = omega arith; in-labels = omega arith; short = omega arith }
 
 note-none-requires-3 : tie.Need-note-none-requires-3
-note-none-requires-3 c κs = let s = c .before .before .before .before .before .before .before .before .before .before .before in let n = s .pre .2 in let h = s .pre .0 in let k = s .pre .1 in let i = n .long-ends in let j = n .long-nests in let l = n .long-labels in record { in-ends = omega arith; in-nests = omega arith; in-labels = omega arith; short = omega arith }
+note-none-requires-3 c κs =
+    let s = c .before .before .before .before .before .before .before .before .before .before .before in
+    let n = s .pre .2 in
+    let h = s .pre .0 in
+    let k = s .pre .1 in
+    let i = n .long-ends in
+    let j = n .long-nests in
+    let l = n .long-labels in
+    record { in-ends = omega arith; in-nests = omega arith; in-labels = omega arith; short = omega arith }
 
 note-none-requires-4 : tie.Need-note-none-requires-4
-note-none-requires-4 c κs = let s = c .before .before .before .before .before .before .before .before .before .before .before in let n = s .pre .2 in let h = s .pre .0 in let k = s .pre .1 in let i = n .long-ends in let j = n .long-nests in let l = n .long-labels in record { in-ends = omega arith; in-nests = omega arith; in-labels = omega arith; short = omega arith }
+note-none-requires-4 c κs =
+    let s = c .before .before .before .before .before .before .before .before .before .before .before in
+    let n = s .pre .2 in
+    let h = s .pre .0 in
+    let k = s .pre .1 in
+    let i = n .long-ends in
+    let j = n .long-nests in
+    let l = n .long-labels in
+    record { in-ends = omega arith; in-nests = omega arith; in-labels = omega arith; short = omega arith }
 
 note-none-requires-5 : tie.Need-note-none-requires-5
-note-none-requires-5 c κs = let s = c .before .before .before .before .before .before .before .before .before .before .before in let n = s .pre .2 in let h = s .pre .0 in let k = s .pre .1 in let i = n .long-ends in let j = n .long-nests in let l = n .long-labels in record { in-ends = omega arith; in-nests = omega arith; in-labels = omega arith; short = omega arith }
+note-none-requires-5 c κs =
+    let s = c .before .before .before .before .before .before .before .before .before .before .before in
+    let n = s .pre .2 in
+    let h = s .pre .0 in
+    let k = s .pre .1 in
+    let i = n .long-ends in
+    let j = n .long-nests in
+    let l = n .long-labels in
+    record { in-ends = omega arith; in-nests = omega arith; in-labels = omega arith; short = omega arith }
 
 note-signal-requires : tie.Need-note-signal-requires
-note-signal-requires c κs = let s = c .before .before .before .before .before .before .before .before .before .before .before in let n = s .pre .2 in let h = s .pre .0 in let k = s .pre .1 in let i = n .long-ends in let j = n .long-nests in let l = n .long-labels in record { in-ends = omega arith; in-nests = omega arith; in-labels = omega arith; short = omega arith }
+note-signal-requires c κs =
+    let s = c .before .before .before .before .before .before .before .before .before .before .before in
+    let n = s .pre .2 in
+    let h = s .pre .0 in
+    let k = s .pre .1 in
+    let i = n .long-ends in
+    let j = n .long-nests in
+    let l = n .long-labels in
+    record { in-ends = omega arith; in-nests = omega arith; in-labels = omega arith; short = omega arith }
 
 note-two-requires : tie.Need-note-two-requires
-note-two-requires c κs = let s = c .before .before .before .before .before .before .before .before .before .before .before in let n = s .pre .2 in let h = s .pre .0 in let k = s .pre .1 in let i = n .long-ends in let j = n .long-nests in let l = n .long-labels in record { in-ends = omega arith; in-nests = omega arith; in-labels = omega arith; short = omega arith }
+note-two-requires c κs =
+    let s = c .before .before .before .before .before .before .before .before .before .before .before in
+    let n = s .pre .2 in
+    let h = s .pre .0 in
+    let k = s .pre .1 in
+    let i = n .long-ends in
+    let j = n .long-nests in
+    let l = n .long-labels in
+    record { in-ends = omega arith; in-nests = omega arith; in-labels = omega arith; short = omega arith }
 
 note-two-requires-2 : tie.Need-note-two-requires-2
-note-two-requires-2 c κs = let s = c .before .before .before .before .before .before .before .before .before .before .before in let n = s .pre .2 in let h = s .pre .0 in let k = s .pre .1 in let i = n .long-ends in let j = n .long-nests in let l = n .long-labels in record { in-ends = omega arith; in-nests = omega arith; in-labels = omega arith; short = omega arith }
+note-two-requires-2 c κs =
+    let s = c .before .before .before .before .before .before .before .before .before .before .before in
+    let n = s .pre .2 in
+    let h = s .pre .0 in
+    let k = s .pre .1 in
+    let i = n .long-ends in
+    let j = n .long-nests in
+    let l = n .long-labels in
+    record { in-ends = omega arith; in-nests = omega arith; in-labels = omega arith; short = omega arith }
 
 note-two-requires-3 : tie.Need-note-two-requires-3
-note-two-requires-3 c κs = let s = c .before .before .before .before .before .before .before .before .before .before .before in let n = s .pre .2 in let h = s .pre .0 in let k = s .pre .1 in let i = n .long-ends in let j = n .long-nests in let l = n .long-labels in record { in-ends = omega arith; in-nests = omega arith; in-labels = omega arith; short = omega arith }
+note-two-requires-3 c κs =
+    let s = c .before .before .before .before .before .before .before .before .before .before .before in
+    let n = s .pre .2 in
+    let h = s .pre .0 in
+    let k = s .pre .1 in
+    let i = n .long-ends in
+    let j = n .long-nests in
+    let l = n .long-labels in
+    record { in-ends = omega arith; in-nests = omega arith; in-labels = omega arith; short = omega arith }
 
 note-one-requires : tie.Need-note-one-requires
-note-one-requires c κs = let s = c .before .before .before .before .before .before .before .before .before .before .before in let n = s .pre .2 in let h = s .pre .0 in let k = s .pre .1 in let i = n .long-ends in let j = n .long-nests in let l = n .long-labels in record { in-ends = omega arith; in-nests = omega arith; in-labels = omega arith; short = omega arith }
+note-one-requires c κs =
+    let s = c .before .before .before .before .before .before .before .before .before .before .before in
+    let n = s .pre .2 in
+    let h = s .pre .0 in
+    let k = s .pre .1 in
+    let i = n .long-ends in
+    let j = n .long-nests in
+    let l = n .long-labels in
+    record { in-ends = omega arith; in-nests = omega arith; in-labels = omega arith; short = omega arith }
 
 note-one-requires-2 : tie.Need-note-one-requires-2
-note-one-requires-2 c κs = let s = c .before .before .before .before .before .before .before .before .before .before .before in let n = s .pre .2 in let h = s .pre .0 in let k = s .pre .1 in let i = n .long-ends in let j = n .long-nests in let l = n .long-labels in record { in-ends = omega arith; in-nests = omega arith; in-labels = omega arith; short = omega arith }
+note-one-requires-2 c κs =
+    let s = c .before .before .before .before .before .before .before .before .before .before .before in
+    let n = s .pre .2 in
+    let h = s .pre .0 in
+    let k = s .pre .1 in
+    let i = n .long-ends in
+    let j = n .long-nests in
+    let l = n .long-labels in
+    record { in-ends = omega arith; in-nests = omega arith; in-labels = omega arith; short = omega arith }
 
 note-none-requires-6 : tie.Need-note-none-requires-6
-note-none-requires-6 c κs = let s = c .before .before .before .before .before .before .before .before .before .before .before .before in let n = s .pre .2 in let h = s .pre .0 in let k = s .pre .1 in let i = n .long-ends in let j = n .long-nests in let l = n .long-labels in record { in-ends = omega arith; in-nests = omega arith; in-labels = omega arith; short = omega arith }
+note-none-requires-6 c κs =
+    let s = c .before .before .before .before .before .before .before .before .before .before .before .before in
+    let n = s .pre .2 in
+    let h = s .pre .0 in
+    let k = s .pre .1 in
+    let i = n .long-ends in
+    let j = n .long-nests in
+    let l = n .long-labels in
+    record { in-ends = omega arith; in-nests = omega arith; in-labels = omega arith; short = omega arith }
 
 note-none-requires-7 : tie.Need-note-none-requires-7
-note-none-requires-7 c κs = let s = c .before .before .before .before .before .before .before .before .before .before .before .before in let n = s .pre .2 in let h = s .pre .0 in let k = s .pre .1 in let i = n .long-ends in let j = n .long-nests in let l = n .long-labels in record { in-ends = omega arith; in-nests = omega arith; in-labels = omega arith; short = omega arith }
+note-none-requires-7 c κs =
+    let s = c .before .before .before .before .before .before .before .before .before .before .before .before in
+    let n = s .pre .2 in
+    let h = s .pre .0 in
+    let k = s .pre .1 in
+    let i = n .long-ends in
+    let j = n .long-nests in
+    let l = n .long-labels in
+    record { in-ends = omega arith; in-nests = omega arith; in-labels = omega arith; short = omega arith }
 
 same-length : tie.Need-same-length
 same-length c = search needs
@@ -74,7 +178,9 @@ same-length-3 : tie.Need-same-length-3
 same-length-3 c = search needs
 
 returns : tie.Need-returns
-returns c = let s = c .before .before .before .before .before .before .before .before .before .before .before .before .before .before .before .before .before .before in mark-nothing (s .pre .0) (s .pre .2) (sym (c .before .before .before .before .before .before .before .before .before .before .before .before .before .kind-of .ensures) ∙ c .before .before .before .before .before .before .before .before .before .before .match .keys1) (c .before .before .before .before .before .before .note-none .ensures)
+returns c =
+    let s = c .before .before .before .before .before .before .before .before .before .before .before .before .before .before .before .before .before .before in
+    mark-nothing (s .pre .0) (s .pre .2) (sym (c .before .before .before .before .before .before .before .before .before .before .before .before .before .kind-of .ensures) ∙ c .before .before .before .before .before .before .before .before .before .before .match .keys1) (c .before .before .before .before .before .before .note-none .ensures)
 
 same-length-4 : tie.Need-same-length-4
 same-length-4 c = search needs
@@ -86,7 +192,9 @@ same-length-6 : tie.Need-same-length-6
 same-length-6 c = search needs
 
 returns-2 : tie.Need-returns-2
-returns-2 c = let s = c .before .before .before .before .before .before .before .before .before .before .before .before .before .before .before .before .before .before in mark-pause (s .pre .0) (s .pre .2) (sym (c .before .before .before .before .before .before .before .before .before .before .before .before .before .kind-of .ensures) ∙ c .before .before .before .before .before .before .before .before .before .before .match .keys2) _ (c .before .before .before .before .before .before .before .before .before .before .before .singleton .ensures ∙ ap (λ (z : ℕ). only z % 2 ^ 64) (c .before .before .before .before .before .before .before .before .before .before .before .before .operand-of .ensures) ∙ pause-word (getD (s .args .nodes .now) (s .args .at) 0)) (c .before .before .before .before .before .before .note-none2 .ensures)
+returns-2 c =
+    let s = c .before .before .before .before .before .before .before .before .before .before .before .before .before .before .before .before .before .before in
+    mark-pause (s .pre .0) (s .pre .2) (sym (c .before .before .before .before .before .before .before .before .before .before .before .before .before .kind-of .ensures) ∙ c .before .before .before .before .before .before .before .before .before .before .match .keys2) _ (c .before .before .before .before .before .before .before .before .before .before .before .singleton .ensures ∙ ap (λ (z : ℕ). only z % 2 ^ 64) (c .before .before .before .before .before .before .before .before .before .before .before .before .operand-of .ensures) ∙ pause-word (getD (s .args .nodes .now) (s .args .at) 0)) (c .before .before .before .before .before .before .note-none2 .ensures)
 
 same-length-7 : tie.Need-same-length-7
 same-length-7 c = search needs
@@ -98,7 +206,9 @@ same-length-9 : tie.Need-same-length-9
 same-length-9 c = search needs
 
 returns-3 : tie.Need-returns-3
-returns-3 c = let s = c .before .before .before .before .before .before .before .before .before .before .before .before .before .before .before .before .before .before in mark-gotopause (s .pre .0) (s .pre .2) (sym (c .before .before .before .before .before .before .before .before .before .before .before .before .before .kind-of .ensures) ∙ c .before .before .before .before .before .before .before .before .before .before .match .keys3) (c .before .before .before .before .before .before .note-none3 .ensures)
+returns-3 c =
+    let s = c .before .before .before .before .before .before .before .before .before .before .before .before .before .before .before .before .before .before in
+    mark-gotopause (s .pre .0) (s .pre .2) (sym (c .before .before .before .before .before .before .before .before .before .before .before .before .before .kind-of .ensures) ∙ c .before .before .before .before .before .before .before .before .before .before .match .keys3) (c .before .before .before .before .before .before .note-none3 .ensures)
 
 same-length-10 : tie.Need-same-length-10
 same-length-10 c = search needs
@@ -110,7 +220,9 @@ same-length-12 : tie.Need-same-length-12
 same-length-12 c = search needs
 
 returns-4 : tie.Need-returns-4
-returns-4 c = let s = c .before .before .before .before .before .before .before .before .before .before .before .before .before .before .before .before .before .before in mark-emit (s .pre .0) (s .pre .2) (sym (c .before .before .before .before .before .before .before .before .before .before .before .before .before .kind-of .ensures) ∙ c .before .before .before .before .before .before .before .before .before .before .match .keys4) (c .before .before .before .before .before .before .note-none4 .ensures)
+returns-4 c =
+    let s = c .before .before .before .before .before .before .before .before .before .before .before .before .before .before .before .before .before .before in
+    mark-emit (s .pre .0) (s .pre .2) (sym (c .before .before .before .before .before .before .before .before .before .before .before .before .before .kind-of .ensures) ∙ c .before .before .before .before .before .before .before .before .before .before .match .keys4) (c .before .before .before .before .before .before .note-none4 .ensures)
 
 same-length-13 : tie.Need-same-length-13
 same-length-13 c = search needs
@@ -122,7 +234,9 @@ same-length-15 : tie.Need-same-length-15
 same-length-15 c = search needs
 
 returns-5 : tie.Need-returns-5
-returns-5 c = let s = c .before .before .before .before .before .before .before .before .before .before .before .before .before .before .before .before .before .before in mark-exit (s .pre .0) (s .pre .2) (sym (c .before .before .before .before .before .before .before .before .before .before .before .before .before .kind-of .ensures) ∙ c .before .before .before .before .before .before .before .before .before .before .match .keys5) (c .before .before .before .before .before .before .note-none5 .ensures)
+returns-5 c =
+    let s = c .before .before .before .before .before .before .before .before .before .before .before .before .before .before .before .before .before .before in
+    mark-exit (s .pre .0) (s .pre .2) (sym (c .before .before .before .before .before .before .before .before .before .before .before .before .before .kind-of .ensures) ∙ c .before .before .before .before .before .before .before .before .before .before .match .keys5) (c .before .before .before .before .before .before .note-none5 .ensures)
 
 same-length-16 : tie.Need-same-length-16
 same-length-16 c = search needs
@@ -134,7 +248,9 @@ same-length-18 : tie.Need-same-length-18
 same-length-18 c = search needs
 
 returns-6 : tie.Need-returns-6
-returns-6 c = let s = c .before .before .before .before .before .before .before .before .before .before .before .before .before .before .before .before .before .before in mark-signal (s .pre .0) (s .pre .2) (sym (c .before .before .before .before .before .before .before .before .before .before .before .before .before .kind-of .ensures) ∙ c .before .before .before .before .before .before .before .before .before .before .match .keys6) (c .before .before .before .before .before .before .note-signal .ensures)
+returns-6 c =
+    let s = c .before .before .before .before .before .before .before .before .before .before .before .before .before .before .before .before .before .before in
+    mark-signal (s .pre .0) (s .pre .2) (sym (c .before .before .before .before .before .before .before .before .before .before .before .before .before .kind-of .ensures) ∙ c .before .before .before .before .before .before .before .before .before .before .match .keys6) (c .before .before .before .before .before .before .note-signal .ensures)
 
 same-length-19 : tie.Need-same-length-19
 same-length-19 c = search needs
@@ -146,7 +262,9 @@ same-length-21 : tie.Need-same-length-21
 same-length-21 c = search needs
 
 returns-7 : tie.Need-returns-7
-returns-7 c = let s = c .before .before .before .before .before .before .before .before .before .before .before .before .before .before .before .before .before .before in mark-present (s .pre .0) (s .pre .2) (sym (c .before .before .before .before .before .before .before .before .before .before .before .before .before .kind-of .ensures) ∙ c .before .before .before .before .before .before .before .before .before .before .match .keys7) (c .before .before .before .before .before .before .note-two .ensures)
+returns-7 c =
+    let s = c .before .before .before .before .before .before .before .before .before .before .before .before .before .before .before .before .before .before in
+    mark-present (s .pre .0) (s .pre .2) (sym (c .before .before .before .before .before .before .before .before .before .before .before .before .before .kind-of .ensures) ∙ c .before .before .before .before .before .before .before .before .before .before .match .keys7) (c .before .before .before .before .before .before .note-two .ensures)
 
 same-length-22 : tie.Need-same-length-22
 same-length-22 c = search needs
@@ -158,7 +276,9 @@ same-length-24 : tie.Need-same-length-24
 same-length-24 c = search needs
 
 returns-8 : tie.Need-returns-8
-returns-8 c = let s = c .before .before .before .before .before .before .before .before .before .before .before .before .before .before .before .before .before .before in mark-sequence (s .pre .0) (s .pre .2) (sym (c .before .before .before .before .before .before .before .before .before .before .before .before .before .kind-of .ensures) ∙ c .before .before .before .before .before .before .before .before .before .before .match .keys8) (c .before .before .before .before .before .before .note-two2 .ensures)
+returns-8 c =
+    let s = c .before .before .before .before .before .before .before .before .before .before .before .before .before .before .before .before .before .before in
+    mark-sequence (s .pre .0) (s .pre .2) (sym (c .before .before .before .before .before .before .before .before .before .before .before .before .before .kind-of .ensures) ∙ c .before .before .before .before .before .before .before .before .before .before .match .keys8) (c .before .before .before .before .before .before .note-two2 .ensures)
 
 same-length-25 : tie.Need-same-length-25
 same-length-25 c = search needs
@@ -170,7 +290,9 @@ same-length-27 : tie.Need-same-length-27
 same-length-27 c = search needs
 
 returns-9 : tie.Need-returns-9
-returns-9 c = let s = c .before .before .before .before .before .before .before .before .before .before .before .before .before .before .before .before .before .before in mark-parallel (s .pre .0) (s .pre .2) (sym (c .before .before .before .before .before .before .before .before .before .before .before .before .before .kind-of .ensures) ∙ c .before .before .before .before .before .before .before .before .before .before .match .keys9) (c .before .before .before .before .before .before .note-two3 .ensures)
+returns-9 c =
+    let s = c .before .before .before .before .before .before .before .before .before .before .before .before .before .before .before .before .before .before in
+    mark-parallel (s .pre .0) (s .pre .2) (sym (c .before .before .before .before .before .before .before .before .before .before .before .before .before .kind-of .ensures) ∙ c .before .before .before .before .before .before .before .before .before .before .match .keys9) (c .before .before .before .before .before .before .note-two3 .ensures)
 
 same-length-28 : tie.Need-same-length-28
 same-length-28 c = search needs
@@ -182,7 +304,9 @@ same-length-30 : tie.Need-same-length-30
 same-length-30 c = search needs
 
 returns-10 : tie.Need-returns-10
-returns-10 c = let s = c .before .before .before .before .before .before .before .before .before .before .before .before .before .before .before .before .before .before in mark-loop (s .pre .0) (s .pre .2) (sym (c .before .before .before .before .before .before .before .before .before .before .before .before .before .kind-of .ensures) ∙ c .before .before .before .before .before .before .before .before .before .before .match .keys10) (c .before .before .before .before .before .before .note-one .ensures)
+returns-10 c =
+    let s = c .before .before .before .before .before .before .before .before .before .before .before .before .before .before .before .before .before .before in
+    mark-loop (s .pre .0) (s .pre .2) (sym (c .before .before .before .before .before .before .before .before .before .before .before .before .before .kind-of .ensures) ∙ c .before .before .before .before .before .before .before .before .before .before .match .keys10) (c .before .before .before .before .before .before .note-one .ensures)
 
 same-length-31 : tie.Need-same-length-31
 same-length-31 c = search needs
@@ -194,7 +318,9 @@ same-length-33 : tie.Need-same-length-33
 same-length-33 c = search needs
 
 returns-11 : tie.Need-returns-11
-returns-11 c = let s = c .before .before .before .before .before .before .before .before .before .before .before .before .before .before .before .before .before .before in mark-try (s .pre .0) (s .pre .2) (sym (c .before .before .before .before .before .before .before .before .before .before .before .before .before .kind-of .ensures) ∙ c .before .before .before .before .before .before .before .before .before .before .match .keys11) (c .before .before .before .before .before .before .note-one2 .ensures)
+returns-11 c =
+    let s = c .before .before .before .before .before .before .before .before .before .before .before .before .before .before .before .before .before .before in
+    mark-try (s .pre .0) (s .pre .2) (sym (c .before .before .before .before .before .before .before .before .before .before .before .before .before .kind-of .ensures) ∙ c .before .before .before .before .before .before .before .before .before .before .match .keys11) (c .before .before .before .before .before .before .note-one2 .ensures)
 
 same-length-34 : tie.Need-same-length-34
 same-length-34 c = search needs
@@ -206,7 +332,9 @@ same-length-36 : tie.Need-same-length-36
 same-length-36 c = search needs
 
 returns-12 : tie.Need-returns-12
-returns-12 c = let s = c .before .before .before .before .before .before .before .before .before .before .before .before .before .before .before .before .before .before .before in mark-unused (s .pre .0) (s .pre .2) (subst (λ (z : ℕ). 10 < z) (c .before .before .before .before .before .before .before .before .before .before .before .before .before .before .kind-of .ensures) (no-kind (c .before .before .before .before .before .before .before .before .before .before .before .before .before .before .kind-of .result) (c .before .before .before .before .before .before .before .before .before .before .before .match .rest .0 .0 .0 .0 .0 .0 .0 .0 .0 .0 .1) (c .before .before .before .before .before .before .before .before .before .before .before .match .rest .0 .0 .0 .0 .0 .0 .0 .0 .0 .1) (c .before .before .before .before .before .before .before .before .before .before .before .match .rest .0 .0 .0 .0 .0 .0 .0 .0 .1) (c .before .before .before .before .before .before .before .before .before .before .before .match .rest .0 .0 .0 .0 .0 .0 .0 .1) (c .before .before .before .before .before .before .before .before .before .before .before .match .rest .0 .0 .0 .0 .0 .0 .1) (c .before .before .before .before .before .before .before .before .before .before .before .match .rest .0 .0 .0 .0 .0 .1) (c .before .before .before .before .before .before .before .before .before .before .before .match .rest .0 .0 .0 .0 .1) (c .before .before .before .before .before .before .before .before .before .before .before .match .rest .0 .0 .0 .1) (c .before .before .before .before .before .before .before .before .before .before .before .match .rest .0 .0 .1) (c .before .before .before .before .before .before .before .before .before .before .before .match .rest .0 .1) (c .before .before .before .before .before .before .before .before .before .before .before .match .rest .1))) (c .before .before .before .before .before .before .note-none6 .ensures)
+returns-12 c =
+    let s = c .before .before .before .before .before .before .before .before .before .before .before .before .before .before .before .before .before .before .before in
+    mark-unused (s .pre .0) (s .pre .2) (subst (λ (z : ℕ). 10 < z) (c .before .before .before .before .before .before .before .before .before .before .before .before .before .before .kind-of .ensures) (no-kind (c .before .before .before .before .before .before .before .before .before .before .before .before .before .before .kind-of .result) (c .before .before .before .before .before .before .before .before .before .before .before .match .rest .0 .0 .0 .0 .0 .0 .0 .0 .0 .0 .1) (c .before .before .before .before .before .before .before .before .before .before .before .match .rest .0 .0 .0 .0 .0 .0 .0 .0 .0 .1) (c .before .before .before .before .before .before .before .before .before .before .before .match .rest .0 .0 .0 .0 .0 .0 .0 .0 .1) (c .before .before .before .before .before .before .before .before .before .before .before .match .rest .0 .0 .0 .0 .0 .0 .0 .1) (c .before .before .before .before .before .before .before .before .before .before .before .match .rest .0 .0 .0 .0 .0 .0 .1) (c .before .before .before .before .before .before .before .before .before .before .before .match .rest .0 .0 .0 .0 .0 .1) (c .before .before .before .before .before .before .before .before .before .before .before .match .rest .0 .0 .0 .0 .1) (c .before .before .before .before .before .before .before .before .before .before .before .match .rest .0 .0 .0 .1) (c .before .before .before .before .before .before .before .before .before .before .before .match .rest .0 .0 .1) (c .before .before .before .before .before .before .before .before .before .before .before .match .rest .0 .1) (c .before .before .before .before .before .before .before .before .before .before .before .match .rest .1))) (c .before .before .before .before .before .before .note-none6 .ensures)
 
 same-length-37 : tie.Need-same-length-37
 same-length-37 c = search needs
@@ -218,7 +346,9 @@ same-length-39 : tie.Need-same-length-39
 same-length-39 c = search needs
 
 returns-13 : tie.Need-returns-13
-returns-13 c = let s = c .before .before .before .before .before .before .before .before .before .before .before .before .before .before .before .before .before .before .before in mark-unused (s .pre .0) (s .pre .2) (let e = c .before .before .before .before .before .before .before .before .before .before .before .before .before .before .kind-of .ensures in omega (arith, c .before .before .before .before .before .before .before .before .before .before .if1 .left)) (c .before .before .before .before .before .before .note-none7 .ensures)
+returns-13 c =
+    let s = c .before .before .before .before .before .before .before .before .before .before .before .before .before .before .before .before .before .before .before in
+    mark-unused (s .pre .0) (s .pre .2) (let e = c .before .before .before .before .before .before .before .before .before .before .before .before .before .before .kind-of .ensures in omega (arith, c .before .before .before .before .before .before .before .before .before .before .if1 .left)) (c .before .before .before .before .before .before .note-none7 .ensures)
 
 pub mark-at-spec : {M : Type 1} → statement M
 mark-at-spec =

@@ -56,7 +56,9 @@ module _ (t : ℕ) where
   element-copy-out-if1 c = place-few (c .before .pre .1 .1 .ready)
 
   returns : resume-lts.Need-returns (claims t) (resume-at t) resume.Post
-  returns c = let s = c .before .before .before in resumed-quiet (s .args .area .now) (s .args .base) _ _ (s .args .labels) (s .args .assumed) (s .pre .1 .0) (meets-not (s .pre .1 .1) (s .args .labels) (getD (s .args .pauses .now) (s .args .at) 0) refl (c .if1 .taken))
+  returns c =
+      let s = c .before .before .before in
+      resumed-quiet (s .args .area .now) (s .args .base) _ _ (s .args .labels) (s .args .assumed) (s .pre .1 .0) (meets-not (s .pre .1 .1) (s .args .labels) (getD (s .args .pauses .now) (s .args .at) 0) refl (c .if1 .taken))
 
   mul-node : resume-lts.Need-mul-node (claims t) (resume-at t) resume.Post
   mul-node c = omega (arith, place-few (c .before .before .before .pre .1 .1 .ready))
@@ -80,187 +82,406 @@ module _ (t : ℕ) where
   with-number-requires c κs = let e = c .before .before .operand-of .ensures in omega arith
 
   resume-requires : resume-lts.Need-resume-requires (claims t) (resume-at t) resume.Post
-  resume-requires c κs = let s = c .before .before .before .before .before .before .before .before .before in let k = child-signal (s .pre .1 .1 .ready) (sym (c .before .before .before .kind-of .ensures) ∙ c .before .before .match .keys6) in (omega (arith, s .pre .0, k .less), ((s .pre .1 .0), resumable-at (s .pre .1 .1) k))
+  resume-requires c κs =
+      let s = c .before .before .before .before .before .before .before .before .before in
+      let r = s .pre .1 .1 in
+      let k = child-signal (r .ready) (sym (c .before .before .before .kind-of .ensures) ∙ c .before .before .match .keys6) in
+      (omega (arith, s .pre .0, k .less), ((s .pre .1 .0), resumable-at r k))
 
   alter-requires : resume-lts.Need-alter-requires (claims t) (resume-at t) resume.Post
   alter-requires c κs = λ h. omega (arith, c .before .before .before .resume .ensures .fits h, c .before .before .before .resume .ensures .same)
 
   above-requires : resume-lts.Need-above-requires (claims t) (resume-at t) resume.Post
-  above-requires c κs = let s = c .before .before .before .before .before .before .before .before .before .before .before .before .before .before .before .before .before in let k = child-signal (s .pre .1 .1 .ready) (sym (c .before .before .before .before .before .before .before .before .before .before .before .kind-of .ensures) ∙ c .before .before .before .before .before .before .before .before .before .before .match .keys6) in let m = altered (Hide (c .before .before .before .before .before .before .before .before .before .before .before .before .operand-of .result)) (made-need (s .args .base + roomFor (partAt (s .args .nodes .now) (s .args .at))) (c .before .before .before .before .before .before .before .resume .ensures) (omega (arith, k .less))) (c .before .before .before .alter .ensures) in (omega (arith, (s .pre .1 .0), m .same), λ h. omega (arith, m .fits h, m .same))
+  above-requires c κs =
+      let s = c .before .before .before .before .before .before .before .before .before .before .before .before .before .before .before .before .before in
+      let k = child-signal (s .pre .1 .1 .ready) (sym (c .before .before .before .before .before .before .before .before .before .before .before .kind-of .ensures) ∙ c .before .before .before .before .before .before .before .before .before .before .match .keys6) in
+      let m = altered (Hide (c .before .before .before .before .before .before .before .before .before .before .before .before .operand-of .result)) (made-need (s .args .base + roomFor (partAt (s .args .nodes .now) (s .args .at))) (c .before .before .before .before .before .before .before .resume .ensures) (omega (arith, k .less))) (c .before .before .before .alter .ensures) in
+      (omega (arith, (s .pre .1 .0), m .same), λ h. omega (arith, m .fits h, m .same))
 
   without-requires : resume-lts.Need-without-requires (claims t) (resume-at t) resume.Post
   without-requires c κs = tt
 
   resume-requires-2 : resume-lts.Need-resume-requires-2 (claims t) (resume-at t) resume.Post
-  resume-requires-2 c κs = let s = c .before .before .before .before .before .before .before .before .before .before .before .before .before .before .before .before .before .before .before .before in let k = child-signal (s .pre .1 .1 .ready) (sym (c .before .before .before .before .before .before .before .before .before .before .before .before .before .before .kind-of .ensures) ∙ c .before .before .before .before .before .before .before .before .before .before .before .before .before .match .keys6) in let m = altered (Hide (c .before .before .before .before .before .before .before .before .before .before .before .before .before .before .before .operand-of .result)) (made-need (s .args .base + roomFor (partAt (s .args .nodes .now) (s .args .at))) (c .before .before .before .before .before .before .before .before .before .before .resume .ensures) (omega (arith, k .less))) (c .before .before .before .before .before .before .alter .ensures) in (omega (arith, s .pre .0, k .less), (c .before .before .above .ensures .within, resumable-at (s .pre .1 .1) k))
+  resume-requires-2 c κs =
+      let s = c .before .before .before .before .before .before .before .before .before .before .before .before .before .before .before .before .before .before .before .before in
+      let r = s .pre .1 .1 in
+      let k = child-signal (r .ready) (sym (c .before .before .before .before .before .before .before .before .before .before .before .before .before .before .kind-of .ensures) ∙ c .before .before .before .before .before .before .before .before .before .before .before .before .before .match .keys6) in
+      let m = altered (Hide (c .before .before .before .before .before .before .before .before .before .before .before .before .before .before .before .operand-of .result)) (made-need (s .args .base + roomFor (partAt (s .args .nodes .now) (s .args .at))) (c .before .before .before .before .before .before .before .before .before .before .resume .ensures) (omega (arith, k .less))) (c .before .before .before .before .before .before .alter .ensures) in
+      (omega (arith, s .pre .0, k .less), (c .before .before .above .ensures .within, resumable-at r k))
 
   either-requires : resume-lts.Need-either-requires (claims t) (resume-at t) resume.Post
-  either-requires c κs = let s = c .before .before .before .before .before .before .before .before .before .before .before .before .before .before .before .before .before .before .before .before .before .before .before .before in let k = child-signal (s .pre .1 .1 .ready) (sym (c .before .before .before .before .before .before .before .before .before .before .before .before .before .before .before .before .before .before .kind-of .ensures) ∙ c .before .before .before .before .before .before .before .before .before .before .before .before .before .before .before .before .before .match .keys6) in let m = altered (Hide (c .before .before .before .before .before .before .before .before .before .before .before .before .before .before .before .before .before .before .before .operand-of .result)) (made-need (s .args .base + roomFor (partAt (s .args .nodes .now) (s .args .at))) (c .before .before .before .before .before .before .before .before .before .before .before .before .before .before .resume .ensures) (omega (arith, k .less))) (c .before .before .before .before .before .before .before .before .before .before .alter .ensures) in beside-top m (c .before .before .before .before .before .before .above .ensures) (omega (arith, k .less)) (c .before .before .before .resume2 .ensures) (λ h e. omega (arith, k .less))
+  either-requires c κs =
+      let s = c .before .before .before .before .before .before .before .before .before .before .before .before .before .before .before .before .before .before .before .before .before .before .before .before in
+      let k = child-signal (s .pre .1 .1 .ready) (sym (c .before .before .before .before .before .before .before .before .before .before .before .before .before .before .before .before .before .before .kind-of .ensures) ∙ c .before .before .before .before .before .before .before .before .before .before .before .before .before .before .before .before .before .match .keys6) in
+      let m = altered (Hide (c .before .before .before .before .before .before .before .before .before .before .before .before .before .before .before .before .before .before .before .operand-of .result)) (made-need (s .args .base + roomFor (partAt (s .args .nodes .now) (s .args .at))) (c .before .before .before .before .before .before .before .before .before .before .before .before .before .before .resume .ensures) (omega (arith, k .less))) (c .before .before .before .before .before .before .before .before .before .before .alter .ensures) in
+      beside-top m (c .before .before .before .before .before .before .above .ensures) (omega (arith, k .less)) (c .before .before .before .resume2 .ensures) (λ h e. omega (arith, k .less))
 
   mul-second : resume-lts.Need-mul-second (claims t) (resume-at t) resume.Post
-  mul-second c = let s = c .before .before .before .before .before .before .before in omega (arith, place-few (ready-at (s .pre .1 .1 .ready) (child-present (s .pre .1 .1 .ready) (sym (c .before .kind-of .ensures) ∙ c .match .keys7))))
+  mul-second c =
+      let s = c .before .before .before .before .before .before .before in
+      let r = s .pre .1 .1 in
+      omega (arith, place-few (ready-at (r .ready) (child-present (r .ready) (sym (c .before .kind-of .ensures) ∙ c .match .keys7))))
 
   element-copy-out-second : resume-lts.Need-element-copy-out-second (claims t) (resume-at t) resume.Post
-  element-copy-out-second c = let s = c .before .before .before .before .before .before .before in place-few (ready-at (s .pre .1 .1 .ready) (child-present (s .pre .1 .1 .ready) (sym (c .before .kind-of .ensures) ∙ c .match .keys7)))
+  element-copy-out-second c =
+      let s = c .before .before .before .before .before .before .before in
+      let r = s .pre .1 .1 in
+      place-few (ready-at (r .ready) (child-present (r .ready) (sym (c .before .kind-of .ensures) ∙ c .match .keys7)))
 
   cast-second : resume-lts.Need-cast-second (claims t) (resume-at t) resume.Post
-  cast-second c = let s = c .before .before .before .before .before .before .before .before in omega (arith, place-few (ready-at (s .pre .1 .1 .ready) (child-else (s .pre .1 .1 .ready) (getD (s .args .ends .now) (s .args .at + 1) 0) refl (sym (c .before .before .kind-of .ensures) ∙ c .before .match .keys7))))
+  cast-second c =
+      let s = c .before .before .before .before .before .before .before .before in
+      let r = s .pre .1 .1 in
+      omega (arith, place-few (ready-at (r .ready) (child-else (r .ready) (getD (s .args .ends .now) (s .args .at + 1) 0) refl (sym (c .before .before .kind-of .ensures) ∙ c .before .match .keys7))))
 
   resume-requires-3 : resume-lts.Need-resume-requires-3 (claims t) (resume-at t) resume.Post
-  resume-requires-3 c κs = let s = c .before .before .before .before .before .before .before .before .before in let k = child-present (s .pre .1 .1 .ready) (sym (c .before .before .before .kind-of .ensures) ∙ c .before .before .match .keys7) in (omega (arith, s .pre .0, k .less), ((s .pre .1 .0), resumable-at (s .pre .1 .1) k))
+  resume-requires-3 c κs =
+      let s = c .before .before .before .before .before .before .before .before .before in
+      let r = s .pre .1 .1 in
+      let k = child-present (r .ready) (sym (c .before .before .before .kind-of .ensures) ∙ c .before .before .match .keys7) in
+      (omega (arith, s .pre .0, k .less), ((s .pre .1 .0), resumable-at r k))
 
   above-requires-2 : resume-lts.Need-above-requires-2 (claims t) (resume-at t) resume.Post
-  above-requires-2 c κs = let s = c .before .before .before .before .before .before .before .before .before .before .before .before .before in let k = child-present (s .pre .1 .1 .ready) (sym (c .before .before .before .before .before .before .before .kind-of .ensures) ∙ c .before .before .before .before .before .before .match .keys7) in let m = (made-need (s .args .base + roomFor (partAt (s .args .nodes .now) (s .args .at))) (c .before .before .before .resume3 .ensures) (omega (arith, k .less))) in (omega (arith, (s .pre .1 .0), m .same), λ h. omega (arith, m .fits h, m .same))
+  above-requires-2 c κs =
+      let s = c .before .before .before .before .before .before .before .before .before .before .before .before .before in
+      let k = child-present (s .pre .1 .1 .ready) (sym (c .before .before .before .before .before .before .before .kind-of .ensures) ∙ c .before .before .before .before .before .before .match .keys7) in
+      let m = (made-need (s .args .base + roomFor (partAt (s .args .nodes .now) (s .args .at))) (c .before .before .before .resume3 .ensures) (omega (arith, k .less))) in
+      (omega (arith, (s .pre .1 .0), m .same), λ h. omega (arith, m .fits h, m .same))
 
   resume-requires-4 : resume-lts.Need-resume-requires-4 (claims t) (resume-at t) resume.Post
-  resume-requires-4 c κs = let s = c .before .before .before .before .before .before .before .before .before .before .before .before .before .before .before in let k = child-present (s .pre .1 .1 .ready) (sym (c .before .before .before .before .before .before .before .before .before .kind-of .ensures) ∙ c .before .before .before .before .before .before .before .before .match .keys7) in let m = (made-need (s .args .base + roomFor (partAt (s .args .nodes .now) (s .args .at))) (c .before .before .before .before .before .resume3 .ensures) (omega (arith, k .less))) in let j = child-else (s .pre .1 .1 .ready) (getD (s .args .ends .now) (s .args .at + 1) 0) refl (sym (c .before .before .before .before .before .before .before .before .before .kind-of .ensures) ∙ c .before .before .before .before .before .before .before .before .match .keys7) in (omega (arith, s .pre .0, j .less), (c .before .above2 .ensures .within, resumable-at (s .pre .1 .1) j))
+  resume-requires-4 c κs =
+      let s = c .before .before .before .before .before .before .before .before .before .before .before .before .before .before .before in
+      let r = s .pre .1 .1 in
+      let key = sym (c .before .before .before .before .before .before .before .before .before .kind-of .ensures) ∙ c .before .before .before .before .before .before .before .before .match .keys7 in
+      let k = child-present (r .ready) key in
+      let m = (made-need (s .args .base + roomFor (partAt (s .args .nodes .now) (s .args .at))) (c .before .before .before .before .before .resume3 .ensures) (omega (arith, k .less))) in
+      let j = child-else (r .ready) (getD (s .args .ends .now) (s .args .at + 1) 0) refl key in
+      (omega (arith, s .pre .0, j .less), (c .before .above2 .ensures .within, resumable-at r j))
 
   either-requires-2 : resume-lts.Need-either-requires-2 (claims t) (resume-at t) resume.Post
-  either-requires-2 c κs = let s = c .before .before .before .before .before .before .before .before .before .before .before .before .before .before .before .before .before .before .before in let k = child-present (s .pre .1 .1 .ready) (sym (c .before .before .before .before .before .before .before .before .before .before .before .before .before .kind-of .ensures) ∙ c .before .before .before .before .before .before .before .before .before .before .before .before .match .keys7) in let m = (made-need (s .args .base + roomFor (partAt (s .args .nodes .now) (s .args .at))) (c .before .before .before .before .before .before .before .before .before .resume3 .ensures) (omega (arith, k .less))) in let j = child-else (s .pre .1 .1 .ready) (getD (s .args .ends .now) (s .args .at + 1) 0) refl (sym (c .before .before .before .before .before .before .before .before .before .before .before .before .before .kind-of .ensures) ∙ c .before .before .before .before .before .before .before .before .before .before .before .before .match .keys7) in beside-top m (c .before .before .before .before .before .above2 .ensures) (omega (arith, k .less)) (c .before .before .before .resume4 .ensures) (λ h e. omega (arith, j .less))
+  either-requires-2 c κs =
+      let s = c .before .before .before .before .before .before .before .before .before .before .before .before .before .before .before .before .before .before .before in
+      let r = s .pre .1 .1 in
+      let key = sym (c .before .before .before .before .before .before .before .before .before .before .before .before .before .kind-of .ensures) ∙ c .before .before .before .before .before .before .before .before .before .before .before .before .match .keys7 in
+      let k = child-present (r .ready) key in
+      let m = (made-need (s .args .base + roomFor (partAt (s .args .nodes .now) (s .args .at))) (c .before .before .before .before .before .before .before .before .before .resume3 .ensures) (omega (arith, k .less))) in
+      let j = child-else (r .ready) (getD (s .args .ends .now) (s .args .at + 1) 0) refl key in
+      beside-top m (c .before .before .before .before .before .above2 .ensures) (omega (arith, k .less)) (c .before .before .before .resume4 .ensures) (λ h e. omega (arith, j .less))
 
   mul-second-2 : resume-lts.Need-mul-second-2 (claims t) (resume-at t) resume.Post
-  mul-second-2 c = let s = c .before .before .before .before .before .before .before in omega (arith, place-few (ready-at (s .pre .1 .1 .ready) (child-sequence (s .pre .1 .1 .ready) (sym (c .before .kind-of .ensures) ∙ c .match .keys8))))
+  mul-second-2 c =
+      let s = c .before .before .before .before .before .before .before in
+      let r = s .pre .1 .1 in
+      omega (arith, place-few (ready-at (r .ready) (child-sequence (r .ready) (sym (c .before .kind-of .ensures) ∙ c .match .keys8))))
 
   element-copy-out-second-2 : resume-lts.Need-element-copy-out-second-2 (claims t) (resume-at t) resume.Post
-  element-copy-out-second-2 c = let s = c .before .before .before .before .before .before .before in place-few (ready-at (s .pre .1 .1 .ready) (child-sequence (s .pre .1 .1 .ready) (sym (c .before .kind-of .ensures) ∙ c .match .keys8)))
+  element-copy-out-second-2 c =
+      let s = c .before .before .before .before .before .before .before in
+      let r = s .pre .1 .1 in
+      place-few (ready-at (r .ready) (child-sequence (r .ready) (sym (c .before .kind-of .ensures) ∙ c .match .keys8)))
 
   cast-second-2 : resume-lts.Need-cast-second-2 (claims t) (resume-at t) resume.Post
-  cast-second-2 c = let s = c .before .before .before .before .before .before .before .before in omega (arith, place-few (ready-at (s .pre .1 .1 .ready) (child-then (s .pre .1 .1 .ready) (getD (s .args .ends .now) (s .args .at + 1) 0) refl (sym (c .before .before .kind-of .ensures) ∙ c .before .match .keys8))))
+  cast-second-2 c =
+      let s = c .before .before .before .before .before .before .before .before in
+      let r = s .pre .1 .1 in
+      omega (arith, place-few (ready-at (r .ready) (child-then (r .ready) (getD (s .args .ends .now) (s .args .at + 1) 0) refl (sym (c .before .before .kind-of .ensures) ∙ c .before .match .keys8))))
 
   resume-requires-5 : resume-lts.Need-resume-requires-5 (claims t) (resume-at t) resume.Post
-  resume-requires-5 c κs = let s = c .before .before .before .before .before .before .before .before .before in let k = child-sequence (s .pre .1 .1 .ready) (sym (c .before .before .before .kind-of .ensures) ∙ c .before .before .match .keys8) in (omega (arith, s .pre .0, k .less), ((s .pre .1 .0), resumable-at (s .pre .1 .1) k))
+  resume-requires-5 c κs =
+      let s = c .before .before .before .before .before .before .before .before .before in
+      let r = s .pre .1 .1 in
+      let k = child-sequence (r .ready) (sym (c .before .before .before .kind-of .ensures) ∙ c .before .before .match .keys8) in
+      (omega (arith, s .pre .0, k .less), ((s .pre .1 .0), resumable-at r k))
 
   follow-requires : resume-lts.Need-follow-requires (claims t) (resume-at t) resume.Post
-  follow-requires c κs = let s = c .before .before .before .before .before .before .before .before .before .before .before .before .before in let k = child-sequence (s .pre .1 .1 .ready) (sym (c .before .before .before .before .before .before .before .kind-of .ensures) ∙ c .before .before .before .before .before .before .match .keys8) in let n = (made-need (s .args .base + roomFor (partAt (s .args .nodes .now) (s .args .at))) (c .before .before .before .resume5 .ensures) (omega (arith, k .less))) in let j = child-then (s .pre .1 .1 .ready) (getD (s .args .ends .now) (s .args .at + 1) 0) refl (sym (c .before .before .before .before .before .before .before .kind-of .ensures) ∙ c .before .before .before .before .before .before .match .keys8) in (standing n, ready-at (s .pre .1 .1 .ready) j)
+  follow-requires c κs =
+      let s = c .before .before .before .before .before .before .before .before .before .before .before .before .before in
+      let r = s .pre .1 .1 in
+      let key = sym (c .before .before .before .before .before .before .before .kind-of .ensures) ∙ c .before .before .before .before .before .before .match .keys8 in
+      let k = child-sequence (r .ready) key in
+      let n = (made-need (s .args .base + roomFor (partAt (s .args .nodes .now) (s .args .at))) (c .before .before .before .resume5 .ensures) (omega (arith, k .less))) in
+      let j = child-then (r .ready) (getD (s .args .ends .now) (s .args .at + 1) 0) refl key in
+      (standing n, ready-at (r .ready) j)
 
   above-requires-3 : resume-lts.Need-above-requires-3 (claims t) (resume-at t) resume.Post
-  above-requires-3 c κs = let s = c .before .before .before .before .before .before .before .before .before .before .before .before .before .before .before .before .before in let k = child-sequence (s .pre .1 .1 .ready) (sym (c .before .before .before .before .before .before .before .before .before .before .before .kind-of .ensures) ∙ c .before .before .before .before .before .before .before .before .before .before .match .keys8) in let n = (made-need (s .args .base + roomFor (partAt (s .args .nodes .now) (s .args .at))) (c .before .before .before .before .before .before .before .resume5 .ensures) (omega (arith, k .less))) in let j = child-then (s .pre .1 .1 .ready) (getD (s .args .ends .now) (s .args .at + 1) 0) refl (sym (c .before .before .before .before .before .before .before .before .before .before .before .kind-of .ensures) ∙ c .before .before .before .before .before .before .before .before .before .before .match .keys8) in let m = followed n (c .before .before .before .follow .ensures) (omega (arith, j .less)) in (omega (arith, (s .pre .1 .0), m .same), λ h. omega (arith, m .fits h, m .same))
+  above-requires-3 c κs =
+      let s = c .before .before .before .before .before .before .before .before .before .before .before .before .before .before .before .before .before in
+      let r = s .pre .1 .1 in
+      let key = sym (c .before .before .before .before .before .before .before .before .before .before .before .kind-of .ensures) ∙ c .before .before .before .before .before .before .before .before .before .before .match .keys8 in
+      let k = child-sequence (r .ready) key in
+      let n = (made-need (s .args .base + roomFor (partAt (s .args .nodes .now) (s .args .at))) (c .before .before .before .before .before .before .before .resume5 .ensures) (omega (arith, k .less))) in
+      let j = child-then (r .ready) (getD (s .args .ends .now) (s .args .at + 1) 0) refl key in
+      let m = followed n (c .before .before .before .follow .ensures) (omega (arith, j .less)) in
+      (omega (arith, (s .pre .1 .0), m .same), λ h. omega (arith, m .fits h, m .same))
 
   resume-requires-6 : resume-lts.Need-resume-requires-6 (claims t) (resume-at t) resume.Post
-  resume-requires-6 c κs = let s = c .before .before .before .before .before .before .before .before .before .before .before .before .before .before .before .before .before .before .before in let k = child-sequence (s .pre .1 .1 .ready) (sym (c .before .before .before .before .before .before .before .before .before .before .before .before .before .kind-of .ensures) ∙ c .before .before .before .before .before .before .before .before .before .before .before .before .match .keys8) in let n = (made-need (s .args .base + roomFor (partAt (s .args .nodes .now) (s .args .at))) (c .before .before .before .before .before .before .before .before .before .resume5 .ensures) (omega (arith, k .less))) in let j = child-then (s .pre .1 .1 .ready) (getD (s .args .ends .now) (s .args .at + 1) 0) refl (sym (c .before .before .before .before .before .before .before .before .before .before .before .before .before .kind-of .ensures) ∙ c .before .before .before .before .before .before .before .before .before .before .before .before .match .keys8) in let m = followed n (c .before .before .before .before .before .follow .ensures) (omega (arith, j .less)) in (omega (arith, s .pre .0, j .less), (c .before .above3 .ensures .within, resumable-at (s .pre .1 .1) j))
+  resume-requires-6 c κs =
+      let s = c .before .before .before .before .before .before .before .before .before .before .before .before .before .before .before .before .before .before .before in
+      let r = s .pre .1 .1 in
+      let key = sym (c .before .before .before .before .before .before .before .before .before .before .before .before .before .kind-of .ensures) ∙ c .before .before .before .before .before .before .before .before .before .before .before .before .match .keys8 in
+      let k = child-sequence (r .ready) key in
+      let n = (made-need (s .args .base + roomFor (partAt (s .args .nodes .now) (s .args .at))) (c .before .before .before .before .before .before .before .before .before .resume5 .ensures) (omega (arith, k .less))) in
+      let j = child-then (r .ready) (getD (s .args .ends .now) (s .args .at + 1) 0) refl key in
+      let m = followed n (c .before .before .before .before .before .follow .ensures) (omega (arith, j .less)) in
+      (omega (arith, s .pre .0, j .less), (c .before .above3 .ensures .within, resumable-at r j))
 
   either-requires-3 : resume-lts.Need-either-requires-3 (claims t) (resume-at t) resume.Post
-  either-requires-3 c κs = let s = c .before .before .before .before .before .before .before .before .before .before .before .before .before .before .before .before .before .before .before .before .before .before .before in let k = child-sequence (s .pre .1 .1 .ready) (sym (c .before .before .before .before .before .before .before .before .before .before .before .before .before .before .before .before .before .kind-of .ensures) ∙ c .before .before .before .before .before .before .before .before .before .before .before .before .before .before .before .before .match .keys8) in let n = (made-need (s .args .base + roomFor (partAt (s .args .nodes .now) (s .args .at))) (c .before .before .before .before .before .before .before .before .before .before .before .before .before .resume5 .ensures) (omega (arith, k .less))) in let j = child-then (s .pre .1 .1 .ready) (getD (s .args .ends .now) (s .args .at + 1) 0) refl (sym (c .before .before .before .before .before .before .before .before .before .before .before .before .before .before .before .before .before .kind-of .ensures) ∙ c .before .before .before .before .before .before .before .before .before .before .before .before .before .before .before .before .match .keys8) in let m = followed n (c .before .before .before .before .before .before .before .before .before .follow .ensures) (omega (arith, j .less)) in beside-top m (c .before .before .before .before .before .above3 .ensures) (omega (arith, k .less)) (c .before .before .before .resume6 .ensures) (λ h e. omega (arith, j .less))
+  either-requires-3 c κs =
+      let s = c .before .before .before .before .before .before .before .before .before .before .before .before .before .before .before .before .before .before .before .before .before .before .before in
+      let r = s .pre .1 .1 in
+      let key = sym (c .before .before .before .before .before .before .before .before .before .before .before .before .before .before .before .before .before .kind-of .ensures) ∙ c .before .before .before .before .before .before .before .before .before .before .before .before .before .before .before .before .match .keys8 in
+      let k = child-sequence (r .ready) key in
+      let n = (made-need (s .args .base + roomFor (partAt (s .args .nodes .now) (s .args .at))) (c .before .before .before .before .before .before .before .before .before .before .before .before .before .resume5 .ensures) (omega (arith, k .less))) in
+      let j = child-then (r .ready) (getD (s .args .ends .now) (s .args .at + 1) 0) refl key in
+      let m = followed n (c .before .before .before .before .before .before .before .before .before .follow .ensures) (omega (arith, j .less)) in
+      beside-top m (c .before .before .before .before .before .above3 .ensures) (omega (arith, k .less)) (c .before .before .before .resume6 .ensures) (λ h e. omega (arith, j .less))
 
   mul-second-3 : resume-lts.Need-mul-second-3 (claims t) (resume-at t) resume.Post
-  mul-second-3 c = let s = c .before .before .before .before .before .before .before in omega (arith, place-few (ready-at (s .pre .1 .1 .ready) (child-parallel (s .pre .1 .1 .ready) (sym (c .before .kind-of .ensures) ∙ c .match .keys9))))
+  mul-second-3 c =
+      let s = c .before .before .before .before .before .before .before in
+      let r = s .pre .1 .1 in
+      omega (arith, place-few (ready-at (r .ready) (child-parallel (r .ready) (sym (c .before .kind-of .ensures) ∙ c .match .keys9))))
 
   element-copy-out-second-3 : resume-lts.Need-element-copy-out-second-3 (claims t) (resume-at t) resume.Post
-  element-copy-out-second-3 c = let s = c .before .before .before .before .before .before .before in place-few (ready-at (s .pre .1 .1 .ready) (child-parallel (s .pre .1 .1 .ready) (sym (c .before .kind-of .ensures) ∙ c .match .keys9)))
+  element-copy-out-second-3 c =
+      let s = c .before .before .before .before .before .before .before in
+      let r = s .pre .1 .1 in
+      place-few (ready-at (r .ready) (child-parallel (r .ready) (sym (c .before .kind-of .ensures) ∙ c .match .keys9)))
 
   cast-second-3 : resume-lts.Need-cast-second-3 (claims t) (resume-at t) resume.Post
-  cast-second-3 c = let s = c .before .before .before .before .before .before .before .before in omega (arith, place-few (ready-at (s .pre .1 .1 .ready) (child-beside (s .pre .1 .1 .ready) (getD (s .args .ends .now) (s .args .at + 1) 0) refl (sym (c .before .before .kind-of .ensures) ∙ c .before .match .keys9))))
+  cast-second-3 c =
+      let s = c .before .before .before .before .before .before .before .before in
+      let r = s .pre .1 .1 in
+      omega (arith, place-few (ready-at (r .ready) (child-beside (r .ready) (getD (s .args .ends .now) (s .args .at + 1) 0) refl (sym (c .before .before .kind-of .ensures) ∙ c .before .match .keys9))))
 
   mul-if2 : resume-lts.Need-mul-if2 (claims t) (resume-at t) resume.Post
-  mul-if2 c = let s = c .before .before .before .before .before .before .before .before in omega (arith, place-few (ready-at (s .pre .1 .1 .ready) (child-parallel (s .pre .1 .1 .ready) (sym (c .before .before .kind-of .ensures) ∙ c .before .match .keys9))))
+  mul-if2 c =
+      let s = c .before .before .before .before .before .before .before .before in
+      let r = s .pre .1 .1 in
+      omega (arith, place-few (ready-at (r .ready) (child-parallel (r .ready) (sym (c .before .before .kind-of .ensures) ∙ c .before .match .keys9))))
 
   element-copy-out-if2 : resume-lts.Need-element-copy-out-if2 (claims t) (resume-at t) resume.Post
-  element-copy-out-if2 c = let s = c .before .before .before .before .before .before .before .before in place-few (ready-at (s .pre .1 .1 .ready) (child-parallel (s .pre .1 .1 .ready) (sym (c .before .before .kind-of .ensures) ∙ c .before .match .keys9)))
+  element-copy-out-if2 c =
+      let s = c .before .before .before .before .before .before .before .before in
+      let r = s .pre .1 .1 in
+      place-few (ready-at (r .ready) (child-parallel (r .ready) (sym (c .before .before .kind-of .ensures) ∙ c .before .match .keys9)))
 
   resume-requires-7 : resume-lts.Need-resume-requires-7 (claims t) (resume-at t) resume.Post
-  resume-requires-7 c κs = let s = c .before .before .before .before .before .before .before .before .before .before .before in let j = child-beside (s .pre .1 .1 .ready) (getD (s .args .ends .now) (s .args .at + 1) 0) refl (sym (c .before .before .before .before .before .kind-of .ensures) ∙ c .before .before .before .before .match .keys9) in (omega (arith, s .pre .0, j .less), ((s .pre .1 .0), resumable-at (s .pre .1 .1) j))
+  resume-requires-7 c κs =
+      let s = c .before .before .before .before .before .before .before .before .before .before .before in
+      let r = s .pre .1 .1 in
+      let j = child-beside (r .ready) (getD (s .args .ends .now) (s .args .at + 1) 0) refl (sym (c .before .before .before .before .before .kind-of .ensures) ∙ c .before .before .before .before .match .keys9) in
+      (omega (arith, s .pre .0, j .less), ((s .pre .1 .0), resumable-at r j))
 
   returns-2 : resume-lts.Need-returns-2 (claims t) (resume-at t) resume.Post
-  returns-2 c = let s = c .before .before .before .before .before .before .before .before .before .before .before .before .before .before in let k = child-parallel (s .pre .1 .1 .ready) (sym (c .before .before .before .before .before .before .before .before .kind-of .ensures) ∙ c .before .before .before .before .before .before .before .match .keys9) in let j = child-beside (s .pre .1 .1 .ready) (getD (s .args .ends .now) (s .args .at + 1) 0) refl (sym (c .before .before .before .before .before .before .before .before .kind-of .ensures) ∙ c .before .before .before .before .before .before .before .match .keys9) in resumed-right (s .pre .1 .1 .ready) (s .args .labels) (s .args .assumed) (getD (s .args .ends .now) (s .args .at + 1) 0) refl (sym (c .before .before .before .before .before .before .before .before .kind-of .ensures) ∙ c .before .before .before .before .before .before .before .match .keys9) (meets-not (resumable-at (s .pre .1 .1) k) (s .args .labels) (getD (s .args .pauses .now) (s .args .at + 1) 0) refl (c .before .before .before .before .if2 .taken)) (made-need (s .args .base + roomFor (partAt (s .args .nodes .now) (s .args .at))) (c .before .before .resume7 .ensures) (omega (arith, j .less)))
+  returns-2 c =
+      let s = c .before .before .before .before .before .before .before .before .before .before .before .before .before .before in
+      let r = s .pre .1 .1 in
+      let key = sym (c .before .before .before .before .before .before .before .before .kind-of .ensures) ∙ c .before .before .before .before .before .before .before .match .keys9 in
+      let k = child-parallel (r .ready) key in
+      let j = child-beside (r .ready) (getD (s .args .ends .now) (s .args .at + 1) 0) refl key in
+      resumed-right (r .ready) (s .args .labels) (s .args .assumed) (getD (s .args .ends .now) (s .args .at + 1) 0) refl key (meets-not (resumable-at r k) (s .args .labels) (getD (s .args .pauses .now) (s .args .at + 1) 0) refl (c .before .before .before .before .if2 .taken)) (made-need (s .args .base + roomFor (partAt (s .args .nodes .now) (s .args .at))) (c .before .before .resume7 .ensures) (omega (arith, j .less)))
 
   same-length : resume-lts.Need-same-length (claims t) (resume-at t) resume.Post
   same-length c = returns-2 c .same
 
   resume-requires-8 : resume-lts.Need-resume-requires-8 (claims t) (resume-at t) resume.Post
-  resume-requires-8 c κs = let s = c .before .before .before .before .before .before .before .before .before .before .before in let k = child-parallel (s .pre .1 .1 .ready) (sym (c .before .before .before .before .before .kind-of .ensures) ∙ c .before .before .before .before .match .keys9) in (omega (arith, s .pre .0, k .less), ((s .pre .1 .0), resumable-at (s .pre .1 .1) k))
+  resume-requires-8 c κs =
+      let s = c .before .before .before .before .before .before .before .before .before .before .before in
+      let r = s .pre .1 .1 in
+      let k = child-parallel (r .ready) (sym (c .before .before .before .before .before .kind-of .ensures) ∙ c .before .before .before .before .match .keys9) in
+      (omega (arith, s .pre .0, k .less), ((s .pre .1 .0), resumable-at r k))
 
   mul-if3 : resume-lts.Need-mul-if3 (claims t) (resume-at t) resume.Post
-  mul-if3 c = let s = c .before .before .before .before .before .before .before .before .before .before .before .before .before .before in omega (arith, place-few (ready-at (s .pre .1 .1 .ready) (child-beside (s .pre .1 .1 .ready) (getD (s .args .ends .now) (s .args .at + 1) 0) refl (sym (c .before .before .before .before .before .before .before .before .kind-of .ensures) ∙ c .before .before .before .before .before .before .before .match .keys9))))
+  mul-if3 c =
+      let s = c .before .before .before .before .before .before .before .before .before .before .before .before .before .before in
+      let r = s .pre .1 .1 in
+      omega (arith, place-few (ready-at (r .ready) (child-beside (r .ready) (getD (s .args .ends .now) (s .args .at + 1) 0) refl (sym (c .before .before .before .before .before .before .before .before .kind-of .ensures) ∙ c .before .before .before .before .before .before .before .match .keys9))))
 
   element-copy-out-if3 : resume-lts.Need-element-copy-out-if3 (claims t) (resume-at t) resume.Post
-  element-copy-out-if3 c = let s = c .before .before .before .before .before .before .before .before .before .before .before .before .before .before in place-few (ready-at (s .pre .1 .1 .ready) (child-beside (s .pre .1 .1 .ready) (getD (s .args .ends .now) (s .args .at + 1) 0) refl (sym (c .before .before .before .before .before .before .before .before .kind-of .ensures) ∙ c .before .before .before .before .before .before .before .match .keys9)))
+  element-copy-out-if3 c =
+      let s = c .before .before .before .before .before .before .before .before .before .before .before .before .before .before in
+      let r = s .pre .1 .1 in
+      place-few (ready-at (r .ready) (child-beside (r .ready) (getD (s .args .ends .now) (s .args .at + 1) 0) refl (sym (c .before .before .before .before .before .before .before .before .kind-of .ensures) ∙ c .before .before .before .before .before .before .before .match .keys9)))
 
   returns-3 : resume-lts.Need-returns-3 (claims t) (resume-at t) resume.Post
-  returns-3 c = let s = c .before .before .before .before .before .before .before .before .before .before .before .before .before .before .before .before in let k = child-parallel (s .pre .1 .1 .ready) (sym (c .before .before .before .before .before .before .before .before .before .before .kind-of .ensures) ∙ c .before .before .before .before .before .before .before .before .before .match .keys9) in let m = (made-need (s .args .base + roomFor (partAt (s .args .nodes .now) (s .args .at))) (c .before .before .before .before .resume8 .ensures) (omega (arith, k .less))) in let j = child-beside (s .pre .1 .1 .ready) (getD (s .args .ends .now) (s .args .at + 1) 0) refl (sym (c .before .before .before .before .before .before .before .before .before .before .kind-of .ensures) ∙ c .before .before .before .before .before .before .before .before .before .match .keys9) in resumed-left (s .pre .1 .1 .ready) (s .args .labels) (s .args .assumed) (getD (s .args .ends .now) (s .args .at + 1) 0) refl (sym (c .before .before .before .before .before .before .before .before .before .before .kind-of .ensures) ∙ c .before .before .before .before .before .before .before .before .before .match .keys9) (meets (resumable-at (s .pre .1 .1) k) (s .args .labels) (getD (s .args .pauses .now) (s .args .at + 1) 0) refl (c .before .before .before .before .before .before .if2 .left)) (meets-not (resumable-at (s .pre .1 .1) j) (s .args .labels) (getD (s .args .pauses .now) (getD (s .args .ends .now) (s .args .at + 1) 0) 0) refl (c .if3 .taken)) m
+  returns-3 c =
+      let s = c .before .before .before .before .before .before .before .before .before .before .before .before .before .before .before .before in
+      let r = s .pre .1 .1 in
+      let key = sym (c .before .before .before .before .before .before .before .before .before .before .kind-of .ensures) ∙ c .before .before .before .before .before .before .before .before .before .match .keys9 in
+      let k = child-parallel (r .ready) key in
+      let m = (made-need (s .args .base + roomFor (partAt (s .args .nodes .now) (s .args .at))) (c .before .before .before .before .resume8 .ensures) (omega (arith, k .less))) in
+      let j = child-beside (r .ready) (getD (s .args .ends .now) (s .args .at + 1) 0) refl key in
+      resumed-left (r .ready) (s .args .labels) (s .args .assumed) (getD (s .args .ends .now) (s .args .at + 1) 0) refl key (meets (resumable-at r k) (s .args .labels) (getD (s .args .pauses .now) (s .args .at + 1) 0) refl (c .before .before .before .before .before .before .if2 .left)) (meets-not (resumable-at r j) (s .args .labels) (getD (s .args .pauses .now) (getD (s .args .ends .now) (s .args .at + 1) 0) 0) refl (c .if3 .taken)) m
 
   same-length-2 : resume-lts.Need-same-length-2 (claims t) (resume-at t) resume.Post
   same-length-2 c = returns-3 c .same
 
   above-requires-4 : resume-lts.Need-above-requires-4 (claims t) (resume-at t) resume.Post
-  above-requires-4 c κs = let s = c .before .before .before .before .before .before .before .before .before .before .before .before .before .before .before .before .before in let k = child-parallel (s .pre .1 .1 .ready) (sym (c .before .before .before .before .before .before .before .before .before .before .before .kind-of .ensures) ∙ c .before .before .before .before .before .before .before .before .before .before .match .keys9) in let m = (made-need (s .args .base + roomFor (partAt (s .args .nodes .now) (s .args .at))) (c .before .before .before .before .before .resume8 .ensures) (omega (arith, k .less))) in (omega (arith, (s .pre .1 .0), m .same), λ h. omega (arith, m .fits h, m .same))
+  above-requires-4 c κs =
+      let s = c .before .before .before .before .before .before .before .before .before .before .before .before .before .before .before .before .before in
+      let k = child-parallel (s .pre .1 .1 .ready) (sym (c .before .before .before .before .before .before .before .before .before .before .before .kind-of .ensures) ∙ c .before .before .before .before .before .before .before .before .before .before .match .keys9) in
+      let m = (made-need (s .args .base + roomFor (partAt (s .args .nodes .now) (s .args .at))) (c .before .before .before .before .before .resume8 .ensures) (omega (arith, k .less))) in
+      (omega (arith, (s .pre .1 .0), m .same), λ h. omega (arith, m .fits h, m .same))
 
   resume-requires-9 : resume-lts.Need-resume-requires-9 (claims t) (resume-at t) resume.Post
-  resume-requires-9 c κs = let s = c .before .before .before .before .before .before .before .before .before .before .before .before .before .before .before .before .before .before .before in let k = child-parallel (s .pre .1 .1 .ready) (sym (c .before .before .before .before .before .before .before .before .before .before .before .before .before .kind-of .ensures) ∙ c .before .before .before .before .before .before .before .before .before .before .before .before .match .keys9) in let m = (made-need (s .args .base + roomFor (partAt (s .args .nodes .now) (s .args .at))) (c .before .before .before .before .before .before .before .resume8 .ensures) (omega (arith, k .less))) in let j = child-beside (s .pre .1 .1 .ready) (getD (s .args .ends .now) (s .args .at + 1) 0) refl (sym (c .before .before .before .before .before .before .before .before .before .before .before .before .before .kind-of .ensures) ∙ c .before .before .before .before .before .before .before .before .before .before .before .before .match .keys9) in (omega (arith, s .pre .0, j .less), (c .before .above4 .ensures .within, resumable-at (s .pre .1 .1) j))
+  resume-requires-9 c κs =
+      let s = c .before .before .before .before .before .before .before .before .before .before .before .before .before .before .before .before .before .before .before in
+      let r = s .pre .1 .1 in
+      let key = sym (c .before .before .before .before .before .before .before .before .before .before .before .before .before .kind-of .ensures) ∙ c .before .before .before .before .before .before .before .before .before .before .before .before .match .keys9 in
+      let k = child-parallel (r .ready) key in
+      let m = (made-need (s .args .base + roomFor (partAt (s .args .nodes .now) (s .args .at))) (c .before .before .before .before .before .before .before .resume8 .ensures) (omega (arith, k .less))) in
+      let j = child-beside (r .ready) (getD (s .args .ends .now) (s .args .at + 1) 0) refl key in
+      (omega (arith, s .pre .0, j .less), (c .before .above4 .ensures .within, resumable-at r j))
 
   together-requires : resume-lts.Need-together-requires (claims t) (resume-at t) resume.Post
-  together-requires c κs = let s = c .before .before .before .before .before .before .before .before .before .before .before .before .before .before .before .before .before .before .before .before .before .before .before in let k = child-parallel (s .pre .1 .1 .ready) (sym (c .before .before .before .before .before .before .before .before .before .before .before .before .before .before .before .before .before .kind-of .ensures) ∙ c .before .before .before .before .before .before .before .before .before .before .before .before .before .before .before .before .match .keys9) in let m = (made-need (s .args .base + roomFor (partAt (s .args .nodes .now) (s .args .at))) (c .before .before .before .before .before .before .before .before .before .before .before .resume8 .ensures) (omega (arith, k .less))) in let j = child-beside (s .pre .1 .1 .ready) (getD (s .args .ends .now) (s .args .at + 1) 0) refl (sym (c .before .before .before .before .before .before .before .before .before .before .before .before .before .before .before .before .before .kind-of .ensures) ∙ c .before .before .before .before .before .before .before .before .before .before .before .before .before .before .before .before .match .keys9) in beside-top m (c .before .before .before .before .before .above4 .ensures) (omega (arith, k .less)) (c .before .before .before .resume9 .ensures) (λ h e. omega (arith, j .less))
+  together-requires c κs =
+      let s = c .before .before .before .before .before .before .before .before .before .before .before .before .before .before .before .before .before .before .before .before .before .before .before in
+      let r = s .pre .1 .1 in
+      let key = sym (c .before .before .before .before .before .before .before .before .before .before .before .before .before .before .before .before .before .kind-of .ensures) ∙ c .before .before .before .before .before .before .before .before .before .before .before .before .before .before .before .before .match .keys9 in
+      let k = child-parallel (r .ready) key in
+      let m = (made-need (s .args .base + roomFor (partAt (s .args .nodes .now) (s .args .at))) (c .before .before .before .before .before .before .before .before .before .before .before .resume8 .ensures) (omega (arith, k .less))) in
+      let j = child-beside (r .ready) (getD (s .args .ends .now) (s .args .at + 1) 0) refl key in
+      beside-top m (c .before .before .before .before .before .above4 .ensures) (omega (arith, k .less)) (c .before .before .before .resume9 .ensures) (λ h e. omega (arith, j .less))
 
   resume-requires-10 : resume-lts.Need-resume-requires-10 (claims t) (resume-at t) resume.Post
-  resume-requires-10 c κs = let s = c .before .before .before .before .before .before .before .before in let k = child-loop (s .pre .1 .1 .ready) (sym (c .before .before .kind-of .ensures) ∙ c .before .match .keys10) in (omega (arith, s .pre .0, k .less), ((s .pre .1 .0), resumable-at (s .pre .1 .1) k))
+  resume-requires-10 c κs =
+      let s = c .before .before .before .before .before .before .before .before in
+      let r = s .pre .1 .1 in
+      let k = child-loop (r .ready) (sym (c .before .before .kind-of .ensures) ∙ c .before .match .keys10) in
+      (omega (arith, s .pre .0, k .less), ((s .pre .1 .0), resumable-at r k))
 
   follow-again-requires : resume-lts.Need-follow-again-requires (claims t) (resume-at t) resume.Post
-  follow-again-requires c κs = let s = c .before .before .before .before .before .before .before .before .before .before .before .before in let k = child-loop (s .pre .1 .1 .ready) (sym (c .before .before .before .before .before .before .kind-of .ensures) ∙ c .before .before .before .before .before .match .keys10) in let m = (made-need (s .args .base + roomFor (partAt (s .args .nodes .now) (s .args .at))) (c .before .before .before .resume10 .ensures) (omega (arith, k .less))) in (standing m, ready-at (s .pre .1 .1 .ready) k)
+  follow-again-requires c κs =
+      let s = c .before .before .before .before .before .before .before .before .before .before .before .before in
+      let r = s .pre .1 .1 in
+      let k = child-loop (r .ready) (sym (c .before .before .before .before .before .before .kind-of .ensures) ∙ c .before .before .before .before .before .match .keys10) in
+      let m = (made-need (s .args .base + roomFor (partAt (s .args .nodes .now) (s .args .at))) (c .before .before .before .resume10 .ensures) (omega (arith, k .less))) in
+      (standing m, ready-at (r .ready) k)
 
   resume-requires-11 : resume-lts.Need-resume-requires-11 (claims t) (resume-at t) resume.Post
-  resume-requires-11 c κs = let s = c .before .before .before .before .before .before .before .before in let k = child-try (s .pre .1 .1 .ready) (sym (c .before .before .kind-of .ensures) ∙ c .before .match .keys11) in (omega (arith, s .pre .0, k .less), ((s .pre .1 .0), resumable-at (s .pre .1 .1) k))
+  resume-requires-11 c κs =
+      let s = c .before .before .before .before .before .before .before .before in
+      let r = s .pre .1 .1 in
+      let k = child-try (r .ready) (sym (c .before .before .kind-of .ensures) ∙ c .before .match .keys11) in
+      (omega (arith, s .pre .0, k .less), ((s .pre .1 .0), resumable-at r k))
 
   alter-requires-2 : resume-lts.Need-alter-requires-2 (claims t) (resume-at t) resume.Post
   alter-requires-2 c κs = λ h. omega (arith, c .before .before .before .resume11 .ensures .fits h, c .before .before .before .resume11 .ensures .same)
 
   returns-4 : resume-lts.Need-returns-4 (claims t) (resume-at t) resume.Post
-  returns-4 c = let s = c .before .before .before .before .before .before .before in resumed-nothing (s .pre .1 .1 .ready) (s .args .labels) (s .args .assumed) (s .args .area .now) (s .args .base) (s .args .base + roomFor (partAt (s .args .nodes .now) (s .args .at))) (s .pre .1 .0) (sym (c .before .kind-of .ensures) ∙ c .match .keys1)
+  returns-4 c =
+      let s = c .before .before .before .before .before .before .before in
+      resumed-nothing (s .pre .1 .1 .ready) (s .args .labels) (s .args .assumed) (s .args .area .now) (s .args .base) (s .args .base + roomFor (partAt (s .args .nodes .now) (s .args .at))) (s .pre .1 .0) (sym (c .before .kind-of .ensures) ∙ c .match .keys1)
 
   returns-5 : resume-lts.Need-returns-5 (claims t) (resume-at t) resume.Post
-  returns-5 c = let s = c .before .before .before .before .before .before .before .before .before .before .before in resumed-pause (s .pre .1 .1 .ready) (s .args .labels) (s .args .assumed) (sym (c .before .before .before .before .before .kind-of .ensures) ∙ c .before .before .before .before .match .keys2) (meets (s .pre .1 .1) (s .args .labels) (getD (s .args .pauses .now) (s .args .at) 0) refl (c .before .before .before .before .before .before .before .before .if1 .left)) (c .before .before .alone .ensures)
+  returns-5 c =
+      let s = c .before .before .before .before .before .before .before .before .before .before .before in
+      let r = s .pre .1 .1 in
+      resumed-pause (r .ready) (s .args .labels) (s .args .assumed) (sym (c .before .before .before .before .before .kind-of .ensures) ∙ c .before .before .before .before .match .keys2) (meets r (s .args .labels) (getD (s .args .pauses .now) (s .args .at) 0) refl (c .before .before .before .before .before .before .before .before .if1 .left)) (c .before .before .alone .ensures)
 
   same-length-3 : resume-lts.Need-same-length-3 (claims t) (resume-at t) resume.Post
   same-length-3 c = returns-5 c .same
 
   returns-6 : resume-lts.Need-returns-6 (claims t) (resume-at t) resume.Post
-  returns-6 c = let s = c .before .before .before .before .before .before .before in resumed-gotopause (s .pre .1 .1 .ready) (s .args .labels) (s .args .assumed) (s .args .area .now) (s .args .base) (s .args .base + roomFor (partAt (s .args .nodes .now) (s .args .at))) (s .pre .1 .0) (sym (c .before .kind-of .ensures) ∙ c .match .keys3)
+  returns-6 c =
+      let s = c .before .before .before .before .before .before .before in
+      resumed-gotopause (s .pre .1 .1 .ready) (s .args .labels) (s .args .assumed) (s .args .area .now) (s .args .base) (s .args .base + roomFor (partAt (s .args .nodes .now) (s .args .at))) (s .pre .1 .0) (sym (c .before .kind-of .ensures) ∙ c .match .keys3)
 
   returns-7 : resume-lts.Need-returns-7 (claims t) (resume-at t) resume.Post
-  returns-7 c = let s = c .before .before .before .before .before .before .before in resumed-emit (s .pre .1 .1 .ready) (s .args .labels) (s .args .assumed) (s .args .area .now) (s .args .base) (s .args .base + roomFor (partAt (s .args .nodes .now) (s .args .at))) (s .pre .1 .0) (sym (c .before .kind-of .ensures) ∙ c .match .keys4)
+  returns-7 c =
+      let s = c .before .before .before .before .before .before .before in
+      resumed-emit (s .pre .1 .1 .ready) (s .args .labels) (s .args .assumed) (s .args .area .now) (s .args .base) (s .args .base + roomFor (partAt (s .args .nodes .now) (s .args .at))) (s .pre .1 .0) (sym (c .before .kind-of .ensures) ∙ c .match .keys4)
 
   returns-8 : resume-lts.Need-returns-8 (claims t) (resume-at t) resume.Post
-  returns-8 c = let s = c .before .before .before .before .before .before .before in resumed-exit (s .pre .1 .1 .ready) (s .args .labels) (s .args .assumed) (s .args .area .now) (s .args .base) (s .args .base + roomFor (partAt (s .args .nodes .now) (s .args .at))) (s .pre .1 .0) (sym (c .before .kind-of .ensures) ∙ c .match .keys5)
+  returns-8 c =
+      let s = c .before .before .before .before .before .before .before in
+      resumed-exit (s .pre .1 .1 .ready) (s .args .labels) (s .args .assumed) (s .args .area .now) (s .args .base) (s .args .base + roomFor (partAt (s .args .nodes .now) (s .args .at))) (s .pre .1 .0) (sym (c .before .kind-of .ensures) ∙ c .match .keys5)
 
   returns-9 : resume-lts.Need-returns-9 (claims t) (resume-at t) resume.Post
-  returns-9 c = let s = c .before .before .before .before .before .before .before .before .before .before .before .before .before .before .before .before .before .before .before .before .before .before .before .before .before .before .before in let k = child-signal (s .pre .1 .1 .ready) (sym (c .before .before .before .before .before .before .before .before .before .before .before .before .before .before .before .before .before .before .before .before .before .kind-of .ensures) ∙ c .before .before .before .before .before .before .before .before .before .before .before .before .before .before .before .before .before .before .before .before .match .keys6) in let m = altered (Hide (c .before .before .before .before .before .before .before .before .before .before .before .before .before .before .before .before .before .before .before .before .before .before .operand-of .result)) (made-need (s .args .base + roomFor (partAt (s .args .nodes .now) (s .args .at))) (c .before .before .before .before .before .before .before .before .before .before .before .before .before .before .before .before .before .resume .ensures) (omega (arith, k .less))) (c .before .before .before .before .before .before .before .before .before .before .before .before .before .alter .ensures) in list-signal (s .pre .1 .1 .ready) (s .args .assumed) (resumed (s .args .labels)) (sym (c .before .before .before .before .before .before .before .before .before .before .before .before .before .before .before .before .before .before .before .before .before .kind-of .ensures) ∙ c .before .before .before .before .before .before .before .before .before .before .before .before .before .before .before .before .before .before .before .before .match .keys6) (c .before .before .before .before .before .before .before .before .before .before .before .before .before .before .before .before .before .before .before .before .before .before .operand-of .result) _ _ (c .before .before .before .before .before .before .before .before .before .before .before .before .before .before .before .before .before .before .before .before .before .before .operand-of .ensures) (c .before .before .before .before .before .before .before .before .before .before .before .before .before .before .before .before .before .before .before .with-number .ensures) (c .before .before .before .before .before .before .before .before .without .ensures) (joined m (c .before .before .before .before .before .before .before .before .before .above .ensures) (omega (arith, k .less)) _++_ (c .before .before .before .before .before .before .resume2 .ensures) (λ h e. omega (arith, k .less)) (s .pre .1 .0) (c .before .before .either .ensures))
+  returns-9 c =
+      let s = c .before .before .before .before .before .before .before .before .before .before .before .before .before .before .before .before .before .before .before .before .before .before .before .before .before .before .before in
+      let r = s .pre .1 .1 in
+      let key = sym (c .before .before .before .before .before .before .before .before .before .before .before .before .before .before .before .before .before .before .before .before .before .kind-of .ensures) ∙ c .before .before .before .before .before .before .before .before .before .before .before .before .before .before .before .before .before .before .before .before .match .keys6 in
+      let k = child-signal (r .ready) key in
+      let m = altered (Hide (c .before .before .before .before .before .before .before .before .before .before .before .before .before .before .before .before .before .before .before .before .before .before .operand-of .result)) (made-need (s .args .base + roomFor (partAt (s .args .nodes .now) (s .args .at))) (c .before .before .before .before .before .before .before .before .before .before .before .before .before .before .before .before .before .resume .ensures) (omega (arith, k .less))) (c .before .before .before .before .before .before .before .before .before .before .before .before .before .alter .ensures) in
+      list-signal (r .ready) (s .args .assumed) (resumed (s .args .labels)) key (c .before .before .before .before .before .before .before .before .before .before .before .before .before .before .before .before .before .before .before .before .before .before .operand-of .result) _ _ (c .before .before .before .before .before .before .before .before .before .before .before .before .before .before .before .before .before .before .before .before .before .before .operand-of .ensures) (c .before .before .before .before .before .before .before .before .before .before .before .before .before .before .before .before .before .before .before .with-number .ensures) (c .before .before .before .before .before .before .before .before .without .ensures) (joined m (c .before .before .before .before .before .before .before .before .before .above .ensures) (omega (arith, k .less)) _++_ (c .before .before .before .before .before .before .resume2 .ensures) (λ h e. omega (arith, k .less)) (s .pre .1 .0) (c .before .before .either .ensures))
 
   same-length-4 : resume-lts.Need-same-length-4 (claims t) (resume-at t) resume.Post
   same-length-4 c = returns-9 c .same
 
   returns-10 : resume-lts.Need-returns-10 (claims t) (resume-at t) resume.Post
-  returns-10 c = let s = c .before .before .before .before .before .before .before .before .before .before .before .before .before .before .before .before .before .before .before .before .before .before in let k = child-present (s .pre .1 .1 .ready) (sym (c .before .before .before .before .before .before .before .before .before .before .before .before .before .before .before .before .kind-of .ensures) ∙ c .before .before .before .before .before .before .before .before .before .before .before .before .before .before .before .match .keys7) in let m = (made-need (s .args .base + roomFor (partAt (s .args .nodes .now) (s .args .at))) (c .before .before .before .before .before .before .before .before .before .before .before .before .resume3 .ensures) (omega (arith, k .less))) in let j = child-else (s .pre .1 .1 .ready) (getD (s .args .ends .now) (s .args .at + 1) 0) refl (sym (c .before .before .before .before .before .before .before .before .before .before .before .before .before .before .before .before .kind-of .ensures) ∙ c .before .before .before .before .before .before .before .before .before .before .before .before .before .before .before .match .keys7) in resumed-present (s .pre .1 .1 .ready) (s .args .labels) (s .args .assumed) (getD (s .args .ends .now) (s .args .at + 1) 0) refl (sym (c .before .before .before .before .before .before .before .before .before .before .before .before .before .before .before .before .kind-of .ensures) ∙ c .before .before .before .before .before .before .before .before .before .before .before .before .before .before .before .match .keys7) (joined m (c .before .before .before .before .before .before .before .before .above2 .ensures) (omega (arith, k .less)) _++_ (c .before .before .before .before .before .before .resume4 .ensures) (λ h e. omega (arith, j .less)) (s .pre .1 .0) (c .before .before .either2 .ensures))
+  returns-10 c =
+      let s = c .before .before .before .before .before .before .before .before .before .before .before .before .before .before .before .before .before .before .before .before .before .before in
+      let r = s .pre .1 .1 in
+      let key = sym (c .before .before .before .before .before .before .before .before .before .before .before .before .before .before .before .before .kind-of .ensures) ∙ c .before .before .before .before .before .before .before .before .before .before .before .before .before .before .before .match .keys7 in
+      let k = child-present (r .ready) key in
+      let m = (made-need (s .args .base + roomFor (partAt (s .args .nodes .now) (s .args .at))) (c .before .before .before .before .before .before .before .before .before .before .before .before .resume3 .ensures) (omega (arith, k .less))) in
+      let j = child-else (r .ready) (getD (s .args .ends .now) (s .args .at + 1) 0) refl key in
+      resumed-present (r .ready) (s .args .labels) (s .args .assumed) (getD (s .args .ends .now) (s .args .at + 1) 0) refl key (joined m (c .before .before .before .before .before .before .before .before .above2 .ensures) (omega (arith, k .less)) _++_ (c .before .before .before .before .before .before .resume4 .ensures) (λ h e. omega (arith, j .less)) (s .pre .1 .0) (c .before .before .either2 .ensures))
 
   same-length-5 : resume-lts.Need-same-length-5 (claims t) (resume-at t) resume.Post
   same-length-5 c = returns-10 c .same
 
   returns-11 : resume-lts.Need-returns-11 (claims t) (resume-at t) resume.Post
-  returns-11 c = let s = c .before .before .before .before .before .before .before .before .before .before .before .before .before .before .before .before .before .before .before .before .before .before .before .before .before .before in let k = child-sequence (s .pre .1 .1 .ready) (sym (c .before .before .before .before .before .before .before .before .before .before .before .before .before .before .before .before .before .before .before .before .kind-of .ensures) ∙ c .before .before .before .before .before .before .before .before .before .before .before .before .before .before .before .before .before .before .before .match .keys8) in let n = (made-need (s .args .base + roomFor (partAt (s .args .nodes .now) (s .args .at))) (c .before .before .before .before .before .before .before .before .before .before .before .before .before .before .before .before .resume5 .ensures) (omega (arith, k .less))) in let j = child-then (s .pre .1 .1 .ready) (getD (s .args .ends .now) (s .args .at + 1) 0) refl (sym (c .before .before .before .before .before .before .before .before .before .before .before .before .before .before .before .before .before .before .before .before .kind-of .ensures) ∙ c .before .before .before .before .before .before .before .before .before .before .before .before .before .before .before .before .before .before .before .match .keys8) in let m = followed n (c .before .before .before .before .before .before .before .before .before .before .before .before .follow .ensures) (omega (arith, j .less)) in resumed-sequence (s .pre .1 .1 .ready) (s .args .labels) (s .args .assumed) (getD (s .args .ends .now) (s .args .at + 1) 0) refl (sym (c .before .before .before .before .before .before .before .before .before .before .before .before .before .before .before .before .before .before .before .before .kind-of .ensures) ∙ c .before .before .before .before .before .before .before .before .before .before .before .before .before .before .before .before .before .before .before .match .keys8) (joined m (c .before .before .before .before .before .before .before .before .above3 .ensures) (omega (arith, k .less)) _++_ (c .before .before .before .before .before .before .resume6 .ensures) (λ h e. omega (arith, j .less)) (s .pre .1 .0) (c .before .before .either3 .ensures))
+  returns-11 c =
+      let s = c .before .before .before .before .before .before .before .before .before .before .before .before .before .before .before .before .before .before .before .before .before .before .before .before .before .before in
+      let r = s .pre .1 .1 in
+      let key = sym (c .before .before .before .before .before .before .before .before .before .before .before .before .before .before .before .before .before .before .before .before .kind-of .ensures) ∙ c .before .before .before .before .before .before .before .before .before .before .before .before .before .before .before .before .before .before .before .match .keys8 in
+      let k = child-sequence (r .ready) key in
+      let n = (made-need (s .args .base + roomFor (partAt (s .args .nodes .now) (s .args .at))) (c .before .before .before .before .before .before .before .before .before .before .before .before .before .before .before .before .resume5 .ensures) (omega (arith, k .less))) in
+      let j = child-then (r .ready) (getD (s .args .ends .now) (s .args .at + 1) 0) refl key in
+      let m = followed n (c .before .before .before .before .before .before .before .before .before .before .before .before .follow .ensures) (omega (arith, j .less)) in
+      resumed-sequence (r .ready) (s .args .labels) (s .args .assumed) (getD (s .args .ends .now) (s .args .at + 1) 0) refl key (joined m (c .before .before .before .before .before .before .before .before .above3 .ensures) (omega (arith, k .less)) _++_ (c .before .before .before .before .before .before .resume6 .ensures) (λ h e. omega (arith, j .less)) (s .pre .1 .0) (c .before .before .either3 .ensures))
 
   same-length-6 : resume-lts.Need-same-length-6 (claims t) (resume-at t) resume.Post
   same-length-6 c = returns-11 c .same
 
   returns-12 : resume-lts.Need-returns-12 (claims t) (resume-at t) resume.Post
-  returns-12 c = let s = c .before .before .before .before .before .before .before .before .before .before .before .before .before .before .before .before .before .before .before .before .before .before .before .before .before .before in let k = child-parallel (s .pre .1 .1 .ready) (sym (c .before .before .before .before .before .before .before .before .before .before .before .before .before .before .before .before .before .before .before .before .kind-of .ensures) ∙ c .before .before .before .before .before .before .before .before .before .before .before .before .before .before .before .before .before .before .before .match .keys9) in let m = (made-need (s .args .base + roomFor (partAt (s .args .nodes .now) (s .args .at))) (c .before .before .before .before .before .before .before .before .before .before .before .before .before .before .resume8 .ensures) (omega (arith, k .less))) in let j = child-beside (s .pre .1 .1 .ready) (getD (s .args .ends .now) (s .args .at + 1) 0) refl (sym (c .before .before .before .before .before .before .before .before .before .before .before .before .before .before .before .before .before .before .before .before .kind-of .ensures) ∙ c .before .before .before .before .before .before .before .before .before .before .before .before .before .before .before .before .before .before .before .match .keys9) in resumed-both (s .pre .1 .1 .ready) (s .args .labels) (s .args .assumed) (getD (s .args .ends .now) (s .args .at + 1) 0) refl (sym (c .before .before .before .before .before .before .before .before .before .before .before .before .before .before .before .before .before .before .before .before .kind-of .ensures) ∙ c .before .before .before .before .before .before .before .before .before .before .before .before .before .before .before .before .before .before .before .match .keys9) (meets (resumable-at (s .pre .1 .1) k) (s .args .labels) (getD (s .args .pauses .now) (s .args .at + 1) 0) refl (c .before .before .before .before .before .before .before .before .before .before .before .before .before .before .before .before .if2 .left)) (meets (resumable-at (s .pre .1 .1) j) (s .args .labels) (getD (s .args .pauses .now) (getD (s .args .ends .now) (s .args .at + 1) 0) 0) refl (c .before .before .before .before .before .before .before .before .before .before .if3 .left)) (joined m (c .before .before .before .before .before .before .before .before .above4 .ensures) (omega (arith, k .less)) (product Parallel) (c .before .before .before .before .before .before .resume9 .ensures) (λ h e. omega (arith, j .less)) (s .pre .1 .0) (c .before .before .together .ensures))
+  returns-12 c =
+      let s = c .before .before .before .before .before .before .before .before .before .before .before .before .before .before .before .before .before .before .before .before .before .before .before .before .before .before in
+      let r = s .pre .1 .1 in
+      let key = sym (c .before .before .before .before .before .before .before .before .before .before .before .before .before .before .before .before .before .before .before .before .kind-of .ensures) ∙ c .before .before .before .before .before .before .before .before .before .before .before .before .before .before .before .before .before .before .before .match .keys9 in
+      let k = child-parallel (r .ready) key in
+      let m = (made-need (s .args .base + roomFor (partAt (s .args .nodes .now) (s .args .at))) (c .before .before .before .before .before .before .before .before .before .before .before .before .before .before .resume8 .ensures) (omega (arith, k .less))) in
+      let j = child-beside (r .ready) (getD (s .args .ends .now) (s .args .at + 1) 0) refl key in
+      resumed-both (r .ready) (s .args .labels) (s .args .assumed) (getD (s .args .ends .now) (s .args .at + 1) 0) refl key (meets (resumable-at r k) (s .args .labels) (getD (s .args .pauses .now) (s .args .at + 1) 0) refl (c .before .before .before .before .before .before .before .before .before .before .before .before .before .before .before .before .if2 .left)) (meets (resumable-at r j) (s .args .labels) (getD (s .args .pauses .now) (getD (s .args .ends .now) (s .args .at + 1) 0) 0) refl (c .before .before .before .before .before .before .before .before .before .before .if3 .left)) (joined m (c .before .before .before .before .before .before .before .before .above4 .ensures) (omega (arith, k .less)) (product Parallel) (c .before .before .before .before .before .before .resume9 .ensures) (λ h e. omega (arith, j .less)) (s .pre .1 .0) (c .before .before .together .ensures))
 
   same-length-7 : resume-lts.Need-same-length-7 (claims t) (resume-at t) resume.Post
   same-length-7 c = returns-12 c .same
 
   returns-13 : resume-lts.Need-returns-13 (claims t) (resume-at t) resume.Post
-  returns-13 c = let s = c .before .before .before .before .before .before .before .before .before .before .before .before .before .before .before in let k = child-loop (s .pre .1 .1 .ready) (sym (c .before .before .before .before .before .before .before .before .before .kind-of .ensures) ∙ c .before .before .before .before .before .before .before .before .match .keys10) in let m = (made-need (s .args .base + roomFor (partAt (s .args .nodes .now) (s .args .at))) (c .before .before .before .before .before .before .resume10 .ensures) (omega (arith, k .less))) in resumed-loop (s .pre .1 .1 .ready) (s .args .labels) (s .args .assumed) (sym (c .before .before .before .before .before .before .before .before .before .kind-of .ensures) ∙ c .before .before .before .before .before .before .before .before .match .keys10) (followed m (c .before .before .follow-again .ensures) (omega (arith, k .less)))
+  returns-13 c =
+      let s = c .before .before .before .before .before .before .before .before .before .before .before .before .before .before .before in
+      let r = s .pre .1 .1 in
+      let key = sym (c .before .before .before .before .before .before .before .before .before .kind-of .ensures) ∙ c .before .before .before .before .before .before .before .before .match .keys10 in
+      let k = child-loop (r .ready) key in
+      let m = (made-need (s .args .base + roomFor (partAt (s .args .nodes .now) (s .args .at))) (c .before .before .before .before .before .before .resume10 .ensures) (omega (arith, k .less))) in
+      resumed-loop (r .ready) (s .args .labels) (s .args .assumed) key (followed m (c .before .before .follow-again .ensures) (omega (arith, k .less)))
 
   same-length-8 : resume-lts.Need-same-length-8 (claims t) (resume-at t) resume.Post
   same-length-8 c = returns-13 c .same
 
   returns-14 : resume-lts.Need-returns-14 (claims t) (resume-at t) resume.Post
-  returns-14 c = let s = c .before .before .before .before .before .before .before .before .before .before .before .before .before .before .before in let k = child-try (s .pre .1 .1 .ready) (sym (c .before .before .before .before .before .before .before .before .before .kind-of .ensures) ∙ c .before .before .before .before .before .before .before .before .match .keys11) in list-try (s .pre .1 .1 .ready) (s .args .assumed) (resumed (s .args .labels)) (sym (c .before .before .before .before .before .before .before .before .before .kind-of .ensures) ∙ c .before .before .before .before .before .before .before .before .match .keys11) (altered Caught (made-need (s .args .base + roomFor (partAt (s .args .nodes .now) (s .args .at))) (c .before .before .before .before .before .before .resume11 .ensures) (omega (arith, k .less))) (c .before .before .alter2 .ensures))
+  returns-14 c =
+      let s = c .before .before .before .before .before .before .before .before .before .before .before .before .before .before .before in
+      let r = s .pre .1 .1 in
+      let key = sym (c .before .before .before .before .before .before .before .before .before .kind-of .ensures) ∙ c .before .before .before .before .before .before .before .before .match .keys11 in
+      let k = child-try (r .ready) key in
+      list-try (r .ready) (s .args .assumed) (resumed (s .args .labels)) key (altered Caught (made-need (s .args .base + roomFor (partAt (s .args .nodes .now) (s .args .at))) (c .before .before .before .before .before .before .resume11 .ensures) (omega (arith, k .less))) (c .before .before .alter2 .ensures))
 
   same-length-9 : resume-lts.Need-same-length-9 (claims t) (resume-at t) resume.Post
   same-length-9 c = returns-14 c .same
 
   returns-15 : resume-lts.Need-returns-15 (claims t) (resume-at t) resume.Post
-  returns-15 c = let s = c .before .before .before .before .before .before .before .before in resumed-unused (s .pre .1 .1 .ready) (s .args .labels) (s .args .assumed) (s .args .area .now) (s .args .base) (s .args .base + roomFor (partAt (s .args .nodes .now) (s .args .at))) (s .pre .1 .0) (subst (λ (z : ℕ). 10 < z) (c .before .before .kind-of .ensures) (no-kind (c .before .before .kind-of .result) (c .before .match .rest .0 .0 .0 .0 .0 .0 .0 .0 .0 .0 .1) (c .before .match .rest .0 .0 .0 .0 .0 .0 .0 .0 .0 .1) (c .before .match .rest .0 .0 .0 .0 .0 .0 .0 .0 .1) (c .before .match .rest .0 .0 .0 .0 .0 .0 .0 .1) (c .before .match .rest .0 .0 .0 .0 .0 .0 .1) (c .before .match .rest .0 .0 .0 .0 .0 .1) (c .before .match .rest .0 .0 .0 .0 .1) (c .before .match .rest .0 .0 .0 .1) (c .before .match .rest .0 .0 .1) (c .before .match .rest .0 .1) (c .before .match .rest .1)))
+  returns-15 c =
+      let s = c .before .before .before .before .before .before .before .before in
+      resumed-unused (s .pre .1 .1 .ready) (s .args .labels) (s .args .assumed) (s .args .area .now) (s .args .base) (s .args .base + roomFor (partAt (s .args .nodes .now) (s .args .at))) (s .pre .1 .0) (subst (λ (z : ℕ). 10 < z) (c .before .before .kind-of .ensures) (no-kind (c .before .before .kind-of .result) (c .before .match .rest .0 .0 .0 .0 .0 .0 .0 .0 .0 .0 .1) (c .before .match .rest .0 .0 .0 .0 .0 .0 .0 .0 .0 .1) (c .before .match .rest .0 .0 .0 .0 .0 .0 .0 .0 .1) (c .before .match .rest .0 .0 .0 .0 .0 .0 .0 .1) (c .before .match .rest .0 .0 .0 .0 .0 .0 .1) (c .before .match .rest .0 .0 .0 .0 .0 .1) (c .before .match .rest .0 .0 .0 .0 .1) (c .before .match .rest .0 .0 .0 .1) (c .before .match .rest .0 .0 .1) (c .before .match .rest .0 .1) (c .before .match .rest .1)))
 
   returns-16 : resume-lts.Need-returns-16 (claims t) (resume-at t) resume.Post
-  returns-16 c = let s = c .before .before .before .before .before .before .before .before in resumed-unused (s .pre .1 .1 .ready) (s .args .labels) (s .args .assumed) (s .args .area .now) (s .args .base) (s .args .base + roomFor (partAt (s .args .nodes .now) (s .args .at))) (s .pre .1 .0) (let e = c .before .before .kind-of .ensures in omega (arith, c .if4 .left))
+  returns-16 c =
+      let s = c .before .before .before .before .before .before .before .before in
+      resumed-unused (s .pre .1 .1 .ready) (s .args .labels) (s .args .assumed) (s .args .area .now) (s .args .base) (s .args .base + roomFor (partAt (s .args .nodes .now) (s .args .at))) (s .pre .1 .0) (let e = c .before .before .kind-of .ensures in omega (arith, c .if4 .left))
 
 pub +resume-spec : {M : Type 1} → statement M
 +resume-spec =

@@ -16,7 +16,9 @@ add-result : tie.Need-add-result
 add-result c = let s = c .before .room .ensures .0 (c .if1 .taken) in omega (arith, s .1)
 
 returns : tie.Need-returns
-returns c = let s = c .before .room .ensures .0 (c .if1 .taken) in record { within = omega (arith, s .1); small = λ h. inl refl; large = λ h. absurd (omega (arith, s .0)) }
+returns c =
+    let s = c .before .room .ensures .0 (c .if1 .taken) in
+    record { within = omega (arith, s .1); small = λ h. inl refl; large = λ h. absurd (omega (arith, s .0)) }
 
 returns-2 : tie.Need-returns-2
 returns-2 c = record { within = omega arith; small = λ h. inr (omega arith, c .before .room .ensures .1 (c .if1 .left) h); large = λ h. omega arith }

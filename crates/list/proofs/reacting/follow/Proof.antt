@@ -24,19 +24,30 @@ mul-start : tie.Need-mul-start
 mul-start c = let h = ending-small (c .before .before .some-ends .ensures .1) (not-false _ (c .before .if1 .left)) in omega (arith, h)
 
 add-start : tie.Need-add-start
-add-start c = let h = ending-small (c .before .before .some-ends .ensures .1) (not-false _ (c .before .if1 .left)) in omega (arith, h, (c .before .before .before .before .before .pre .0) h .0)
+add-start c =
+    let h = ending-small (c .before .before .some-ends .ensures .1) (not-false _ (c .before .if1 .left)) in
+    omega (arith, h, (c .before .before .before .before .before .pre .0) h .0)
 
 start-requires : tie.Need-start-requires
-start-requires c κs = let s = c .before .before .before .before .before in let h = ending-small (c .before .before .some-ends .ensures .1) (not-false _ (c .before .if1 .left)) in (omega (arith, h, (s .pre .0) h .0), s .pre .1)
+start-requires c κs =
+    let s = c .before .before .before .before .before in
+    let h = ending-small (c .before .before .some-ends .ensures .1) (not-false _ (c .before .if1 .left)) in
+    (omega (arith, h, (s .pre .0) h .0), s .pre .1)
 
 product-requires : tie.Need-product-requires
-product-requires c κs = let s = c .before .before .before .before .before .before .before .before .before in let h = ending-small (c .before .before .before .before .before .before .some-ends .ensures .1) (not-false _ (c .before .before .before .before .before .if1 .left)) in beside (standing-made (s .pre .0) h) h (made-need (s .args .base + 128 + roomFor (partAt (s .args .nodes .now) (s .args .at))) (c .before .before .before .start .ensures) (omega (arith, h)))
+product-requires c κs =
+    let s = c .before .before .before .before .before .before .before .before .before in
+    let h = ending-small (c .before .before .before .before .before .before .some-ends .ensures .1) (not-false _ (c .before .before .before .before .before .if1 .left)) in
+    beside (standing-made (s .pre .0) h) h (made-need (s .args .base + 128 + roomFor (partAt (s .args .nodes .now) (s .args .at))) (c .before .before .before .start .ensures) (omega (arith, h)))
 
 same-length-2 : tie.Need-same-length-2
 same-length-2 c = search needs
 
 returns-2 : tie.Need-returns-2
-returns-2 c = let s = c .before .before .before .before .before .before .before .before .before .before .before .before in let h = ending-small (c .before .before .before .before .before .before .before .before .before .some-ends .ensures .1) (not-false _ (c .before .before .before .before .before .before .before .before .if1 .left)) in record { small = λ k. followed-by (standing-made (s .pre .0) h) _ (c .before .before .before .before .before .before .before .before .before .some-ends .ensures) (not-false _ (c .before .before .before .before .before .before .before .before .if1 .left)) (made-need (s .args .base + 128 + roomFor (partAt (s .args .nodes .now) (s .args .at))) (c .before .before .before .before .before .before .start .ensures) (omega (arith, h))) (omega arith) (c .before .before .product .ensures); large = λ k. absurd (omega (arith, h)) }
+returns-2 c =
+    let s = c .before .before .before .before .before .before .before .before .before .before .before .before in
+    let h = ending-small (c .before .before .before .before .before .before .before .before .before .some-ends .ensures .1) (not-false _ (c .before .before .before .before .before .before .before .before .if1 .left)) in
+    record { small = λ k. followed-by (standing-made (s .pre .0) h) _ (c .before .before .before .before .before .before .before .before .before .some-ends .ensures) (not-false _ (c .before .before .before .before .before .before .before .before .if1 .left)) (made-need (s .args .base + 128 + roomFor (partAt (s .args .nodes .now) (s .args .at))) (c .before .before .before .before .before .before .start .ensures) (omega (arith, h))) (omega arith) (c .before .before .product .ensures); large = λ k. absurd (omega (arith, h)) }
 
 pub follow-spec : {M : Type 1} → statement M
 follow-spec =

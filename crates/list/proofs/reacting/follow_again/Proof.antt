@@ -25,22 +25,33 @@ mul-top : tie.Need-mul-top
 mul-top c = let h = ending-small (c .before .some-ends .ensures .1) (not-false _ (c .if1 .left)) in omega (arith, h)
 
 add-top : tie.Need-add-top
-add-top c = let h = ending-small (c .before .some-ends .ensures .1) (not-false _ (c .if1 .left)) in omega (arith, h, (c .before .before .before .before .pre .0) h .0)
+add-top c =
+    let h = ending-small (c .before .some-ends .ensures .1) (not-false _ (c .if1 .left)) in
+    omega (arith, h, (c .before .before .before .before .pre .0) h .0)
 
 start-requires : tie.Need-start-requires
-start-requires c κs = let s = c .before .before .before .before .before in let h = ending-small (c .before .before .some-ends .ensures .1) (not-false _ (c .before .if1 .left)) in (omega (arith, h, (s .pre .0) h .0), s .pre .1)
+start-requires c κs =
+    let s = c .before .before .before .before .before in
+    let h = ending-small (c .before .before .some-ends .ensures .1) (not-false _ (c .before .if1 .left)) in
+    (omega (arith, h, (s .pre .0) h .0), s .pre .1)
 
 alter-requires : tie.Need-alter-requires
 alter-requires c κs = λ h. omega (arith, c .before .before .before .start .ensures .fits h, c .before .before .before .start .ensures .same)
 
 product-requires : tie.Need-product-requires
-product-requires c κs = let s = c .before .before .before .before .before .before .before .before .before .before .before .before .before in let h = ending-small (c .before .before .before .before .before .before .before .before .before .before .some-ends .ensures .1) (not-false _ (c .before .before .before .before .before .before .before .before .before .if1 .left)) in beside (standing-made (s .pre .0) h) h (altered Going (made-need (s .args .base + 128 + roomFor (partAt (s .args .nodes .now) (s .args .at))) (c .before .before .before .before .before .before .before .start .ensures) (omega (arith, h))) (c .before .before .before .alter .ensures))
+product-requires c κs =
+    let s = c .before .before .before .before .before .before .before .before .before .before .before .before .before in
+    let h = ending-small (c .before .before .before .before .before .before .before .before .before .before .some-ends .ensures .1) (not-false _ (c .before .before .before .before .before .before .before .before .before .if1 .left)) in
+    beside (standing-made (s .pre .0) h) h (altered Going (made-need (s .args .base + 128 + roomFor (partAt (s .args .nodes .now) (s .args .at))) (c .before .before .before .before .before .before .before .start .ensures) (omega (arith, h))) (c .before .before .before .alter .ensures))
 
 same-length-2 : tie.Need-same-length-2
 same-length-2 c = search needs
 
 returns-2 : tie.Need-returns-2
-returns-2 c = let s = c .before .before .before .before .before .before .before .before .before .before .before .before .before .before .before .before in let h = ending-small (c .before .before .before .before .before .before .before .before .before .before .before .before .before .some-ends .ensures .1) (not-false _ (c .before .before .before .before .before .before .before .before .before .before .before .before .if1 .left)) in record { small = λ k. followed-by (standing-made (s .pre .0) h) _ (c .before .before .before .before .before .before .before .before .before .before .before .before .before .some-ends .ensures) (not-false _ (c .before .before .before .before .before .before .before .before .before .before .before .before .if1 .left)) (altered Going (made-need (s .args .base + 128 + roomFor (partAt (s .args .nodes .now) (s .args .at))) (c .before .before .before .before .before .before .before .before .before .before .start .ensures) (omega (arith, h))) (c .before .before .before .before .before .before .alter .ensures)) (omega arith) (c .before .before .product .ensures); large = λ k. absurd (omega (arith, h)) }
+returns-2 c =
+    let s = c .before .before .before .before .before .before .before .before .before .before .before .before .before .before .before .before in
+    let h = ending-small (c .before .before .before .before .before .before .before .before .before .before .before .before .before .some-ends .ensures .1) (not-false _ (c .before .before .before .before .before .before .before .before .before .before .before .before .if1 .left)) in
+    record { small = λ k. followed-by (standing-made (s .pre .0) h) _ (c .before .before .before .before .before .before .before .before .before .before .before .before .before .some-ends .ensures) (not-false _ (c .before .before .before .before .before .before .before .before .before .before .before .before .if1 .left)) (altered Going (made-need (s .args .base + 128 + roomFor (partAt (s .args .nodes .now) (s .args .at))) (c .before .before .before .before .before .before .before .before .before .before .start .ensures) (omega (arith, h))) (c .before .before .before .before .before .before .alter .ensures)) (omega arith) (c .before .before .product .ensures); large = λ k. absurd (omega (arith, h)) }
 
 pub follow-again-spec : {M : Type 1} → statement M
 follow-again-spec =
