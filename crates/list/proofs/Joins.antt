@@ -2,13 +2,13 @@
 -- reactions, or too small an area, in a part is so of the whole.
 use mathlib.Core.Path.{_≡_, refl, sym, ap, ap₂, _∙_, subst}
 use mathlib.Core.Logic.{_⊎_, inl, inr}
-use mathlib.Core.Bool.{Bool, true, false, cond}
-use mathlib.Core.List.{List, [], _∷_, _++_}
-use mathlib.Core.Option.{Option, none, some}
+use mathlib.Core.Bool.{Bool, true, false}
+use mathlib.Core.List.{List}
+use mathlib.Core.Option.{none, some}
 use Prim.Native.Nat.{ℕ, _+_, _*_, _≤_, _<_}
 use native.Mathlib.Omega.{arith}
 use native.Mathlib.Decide.{decLe}
-use lib.ListN.{length, getD}
+use lib.ListN.{length}
 use Rattle.sets.proofs.Booleans.{clash}
 use Rattle.esterel.specs.Reactions.{Reaction}
 use Rattle.esterel.specs.Listing.{Rising, hide, follow, together, going, caught, someEnds}
@@ -16,7 +16,7 @@ use Rattle.area.specs.declared.Change.{Change}
 use Rattle.area.specs.declared.Change.the-variants.{Hide, Going, Caught}
 use Rattle.area.specs.declared.Pairing.the-variants.{Sequence, Parallel}
 use Rattle.area.specs.Rules.{changed, change, joined as joined-one, joinedAll, pairs, product}
-use Rattle.area.specs.Area.{rows, collect, Low, Made, Altered, Beside, Merged}
+use Rattle.area.specs.Area.{rows, Made, Altered, Beside, Merged}
 use Rattle.area.proofs.Rows.{rows-agree}
 use Rattle.area.proofs.Made.{made-as, made-need, made-there}
 use Rattle.list.specs.Capped.{Capped, changeIn, joinIn, followIn}

@@ -4,14 +4,13 @@ use mathlib.Core.Path.{_≡_, refl, sym, ap, _∙_, subst}
 use mathlib.Core.Logic.{_⊎_, inl, inr}
 use mathlib.Core.Bool.{Bool, true, false, cond}
 use mathlib.Core.List.{List, [], _∷_, _++_}
-use mathlib.Core.Option.{Option, none, some, Option·none-ne-some, Option·some-injective}
-use Prim.Native.Nat.{ℕ, zero, suc, _+_, _*_, _/_, _%_, _≤_, _<_, min}
+use mathlib.Core.Option.{none, some, Option·none-ne-some, Option·some-injective}
+use Prim.Native.Nat.{ℕ, zero, suc, _+_, _≤_, _<_, min}
 use native.Mathlib.Omega.{arith}
-use native.Mathlib.Decide.{decLe, decLt}
+use native.Mathlib.Decide.{decLe}
 use lib.ListN.{length, getD, take}
 use lib.Seq.{getD-take}
 use borrow.Author.Tests.{lt-ltb, le-ltb}
-use Rattle.sets.proofs.Booleans.{clash}
 use Rattle.esterel.specs.Statement.{Statement, nothing, pause, gotopause, emit, exit, signal, present, sequence, parallel, loop, try, size, depth, Valid}
 use Rattle.esterel.specs.Reactions.{State, Reaction}
 use Rattle.esterel.specs.Listing.{Listed, list, listing, crowded, nesting}
@@ -30,7 +29,7 @@ use Rattle.area.proofs.Rows.{rows-length}
 use Rattle.list.specs.declared.Answer.{Answer}
 use Rattle.list.specs.declared.Answer.the-variants as answer
 use Rattle.list.specs.Capped.{Capped, capped}
-use Rattle.list.specs.Notes.{placeAt, partAt, NestsFrom, Whole, Sound, Noted, Resumable}
+use Rattle.list.specs.Notes.{placeAt, partAt, NestsFrom, Sound, Noted, Resumable}
 use Rattle.list.specs.Answers.{Found, refused, found, stateOf, reactionsOf, foundIn, answerOf, Finds}
 use Rattle.list.proofs.Capped.{capped-is}
 

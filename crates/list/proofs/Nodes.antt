@@ -1,7 +1,6 @@
 -- The statement at a place, by the kind of the node there: what a pass over the nodes meets at each step. Where a statement is
 -- read whole, so are its children.
 use mathlib.Core.Path.{_≡_, refl, sym, ap, _∙_, subst}
-use mathlib.Core.Logic.{_⊎_, inl, inr}
 use mathlib.Core.List.{List}
 use Prim.Native.Nat.{ℕ, zero, suc, _+_, _-_, _≤_, _<_, max}
 use native.Mathlib.Omega.{arith}

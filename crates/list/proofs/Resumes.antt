@@ -1,10 +1,10 @@
 -- The list of a resumed statement, from the lists of its children. A statement without a label of the state has the empty
 -- list and needs no other, so it is not looked into.
-use mathlib.Core.Path.{_≡_, refl, sym, ap, ap₂, _∙_, subst}
+use mathlib.Core.Path.{_≡_, refl, sym, ap, ap₂, _∙_}
 use mathlib.Core.Bool.{Bool, true, false, cond, _&&_}
-use mathlib.Core.List.{List, [], _∷_, _++_}
-use mathlib.Core.Option.{Option, none, some}
-use Prim.Native.Nat.{ℕ, zero, suc, _+_, _*_, _-_, _≤_, _<_}
+use mathlib.Core.List.{List, [], _∷_}
+use mathlib.Core.Option.{none, some}
+use Prim.Native.Nat.{ℕ, _+_, _-_, _≤_, _<_}
 use native.Mathlib.Omega.{arith}
 use native.Mathlib.Decide.{ℕ-discrete}
 use lib.Bits.{bitAnd, and-zero-r}
@@ -12,10 +12,10 @@ use lib.Dec.{eqb}
 use lib.ListN.{length, getD}
 use borrow.Author.Tests.{eq-eqb, ne-eqb}
 use Rattle.sets.specs.Set.{has, only, _union_, _intersect_, _without_}
-use Rattle.sets.proofs.Members.{test-apart, has-intersect, has-only-other, has-only, has-empty, ext}
-use Rattle.esterel.specs.Statement.{Statement, nothing, pause, gotopause, emit, exit, signal, present, sequence, parallel, loop, try, pauses}
-use Rattle.esterel.specs.Reactions.{State, start, resumed, Reaction}
-use Rattle.esterel.specs.Listing.{reaction, one, onlyIf, list, crowded}
+use Rattle.sets.proofs.Members.{test-apart, has-intersect, has-only-other, has-empty, ext}
+use Rattle.esterel.specs.Statement.{Statement, nothing, pause, gotopause, emit, exit, present, sequence, parallel, loop, pauses}
+use Rattle.esterel.specs.Reactions.{start, resumed, Reaction}
+use Rattle.esterel.specs.Listing.{reaction, one, onlyIf, list}
 use Rattle.table.specs.Reading.{kindOfNode, operandOf}
 use Rattle.table.specs.Places.{Placed, placed}
 use Rattle.area.specs.declared.Change.the-variants.{Going}

@@ -1,9 +1,9 @@
 -- What is noted of the statement at each place of decoded nodes, so that a lister need not look for it again: the place where
 -- it ends, the labels of its pauses, and how many signal statements stand inside one another.
 use mathlib.Core.Path.{_≡_}
-use mathlib.Core.Bool.{Bool, cond}
+use mathlib.Core.Bool.{cond}
 use mathlib.Core.List.{List}
-use Prim.Native.Nat.{ℕ, _+_, _*_, _/_, _%_, _≤_, _<_, min}
+use Prim.Native.Nat.{ℕ, _+_, _*_, _≤_, _<_, min}
 use lib.Dec.{ltb}
 use lib.ListN.{length, getD, set}
 use Rattle.esterel.specs.Statement.{Statement, pauses, size, depth}

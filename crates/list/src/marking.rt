@@ -9,7 +9,7 @@ ghost use Rattle.sets.specs.Set.{_union_};
 ghost use Rattle.list.specs.Notes.{endIn, Room, Wrote, Noted};
 
 // Where the statement at a place ends.
-pub fn end_at(ends: &[u16], at: usize) -> usize
+fn end_at(ends: &[u16], at: usize) -> usize
     ensures { λ r. ⌜ (r ≡ endIn (now (ends .entry)) at) × (at < 65536 → r < 65536) ⌝ }
 {
     if at < ends.len() {
@@ -20,14 +20,14 @@ pub fn end_at(ends: &[u16], at: usize) -> usize
 }
 
 // The nesting of the statement at a place.
-pub fn nest_at(nests: &[u8], at: usize) -> u8
+fn nest_at(nests: &[u8], at: usize) -> u8
     ensures { λ r. ⌜ r ≡ getD (now (nests .entry)) at 0 ⌝ }
 {
     if at < nests.len() { nests[at] } else { 0 }
 }
 
 // The labels of the pauses of the statement at a place.
-pub fn pauses_at(pauses: &[u64], at: usize) -> u64
+fn pauses_at(pauses: &[u64], at: usize) -> u64
     ensures { λ r. ⌜ r ≡ getD (now (pauses .entry)) at 0 ⌝ }
 {
     if at < pauses.len() { pauses[at] } else { 0 }

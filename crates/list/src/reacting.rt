@@ -1,5 +1,6 @@
 // The reactions of the statement at a place of decoded nodes, left as a rising list in a lent area from `base` on. A number
-// comes back: so many reactions; 65, some list needed has over 64; 66, the area is too small.
+// comes back: so many reactions; 65, some list needed has over 64; 66, the area is too small. The nodes and what is noted of
+// them are arrays, since a slice goes through memory at every call; only the first nodes are those of the table.
 use area::Change;
 use area::Pairing;
 use esterel::Level;
@@ -192,7 +193,7 @@ fn follow(
     area::product(area, base, n, n2, Pairing::Sequence)
 }
 
-// The same where it is the body of a loop, which does not end twice in one instant.
+// The same where it is the body of a loop: what of it ends in the same instant is left out.
 fn follow_again(
     nodes: &[u16; 1024],
     ends: &[u16; 1024],
@@ -214,7 +215,7 @@ fn follow_again(
     area::product(area, base, n, n2, Pairing::Sequence)
 }
 
-// The reactions of a resumed labelsment, which has none where the state has no label of a pause in it.
+// The reactions of a resumed statement, which has none where the state has no label of a pause in it.
 pub fn resume(
     nodes: &[u16; 1024],
     ends: &[u16; 1024],

@@ -1,7 +1,7 @@
 -- Kind by kind.
 use native.Mathlib.Omega.{arith}
 use Prim.Native.Nat.{ℕ, _%_, _^_, _<_}
-use mathlib.Core.Path.{_≡_, sym, ap, _∙_, subst}
+use mathlib.Core.Path.{sym, ap, _∙_, subst}
 use lib.ListN.{getD}
 use Rattle.sets.specs.Set.{only}
 use Rattle.list.proofs.Nodes.{no-kind}

@@ -1,7 +1,7 @@
 -- The reactions of a started statement, kind by kind: the lists of the children are those that the calls left. The depth of
 -- the statement falls.
 use native.Mathlib.Omega.{arith}
-use mathlib.Core.Path.{_≡_, refl, sym, _∙_, subst}
+use mathlib.Core.Path.{refl, sym, _∙_, subst}
 use mathlib.Core.List.{_++_}
 use lib.ListN.{getD}
 use borrow.Author.Tests.{not-true, not-false}
