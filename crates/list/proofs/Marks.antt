@@ -13,7 +13,7 @@ use Rattle.esterel.specs.Listing.{nesting}
 use Rattle.table.specs.Reading.{kindOfNode, operandOf}
 use Rattle.table.specs.Places.{Placed, placed}
 use Rattle.area.proofs.Sets.{only-word}
-use Rattle.list.specs.Notes.{endIn, placeAt, partAt, Whole, EndsFrom, NestsFrom, PausesFrom, Noted, Wrote}
+use Rattle.list.specs.Notes.{endIn, placeAt, partAt, Whole, EndsFrom, NestsFrom, PausesFrom, Noted, Room, Wrote}
 use Rattle.list.proofs.Nodes.{One, Two, before-end, is-nothing, is-pause, is-gotopause, is-emit, is-exit, is-signal, is-present, is-sequence, is-parallel, is-loop, is-try, is-unused}
 
 pub end-there : (ends : List ℕ) (at : ℕ) → at < length ends → endIn ends at ≡ getD ends at 0
@@ -47,6 +47,9 @@ no-notes n xs ends nests labels e f g = record {
 
 pub noted-as : {i j n m : ℕ} {xs ends nests labels : List ℕ} → i ≡ j → n ≡ m → Noted i n xs ends nests labels → Noted j m xs ends nests labels
 noted-as {i} {j} {n} {m} {xs} {ends} {nests} {labels} e f c = subst (λ (z : ℕ). Noted z m xs ends nests labels) e (subst (λ (z : ℕ). Noted i z xs ends nests labels) f c)
+
+pub has-room : {i n at : ℕ} {xs ends nests labels : List ℕ} → Noted i n xs ends nests labels → at < n → length ends ≤ 1024 → Room at ends nests labels
+has-room c h k = let e = c .long-ends in let f = c .long-nests in let g = c .long-labels in record { in-ends = omega arith; in-nests = omega arith; in-labels = omega arith; short = k }
 
 -- the notes stand in front of more room
 in-front : (n : ℕ) (xs front back : List ℕ) (P : ℕ → ℕ) → n ≤ length front → ((at : ℕ) → 0 ≤ at → Whole n xs at → getD front at 0 ≡ P at) → (at : ℕ) → 0 ≤ at → Whole n xs at → getD (front ++ back) at 0 ≡ P at

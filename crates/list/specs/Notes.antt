@@ -15,7 +15,7 @@ use Rattle.table.specs.Places.{Placed, statementAt}
 unfoldable pub endIn : List ℕ → ℕ → ℕ
 endIn ends at = cond (ltb at (length ends)) (getD ends at 0) at
 
--- the statement at a place, and where it ends; no table is deeper
+-- the statement at a place and the place after it, read down to the depth 60, which no table exceeds
 abbrev pub placeAt : List ℕ → ℕ → Placed
 placeAt xs at = statementAt 60 xs at
 

@@ -5,7 +5,7 @@ use mathlib.Core.Path.{sym, ap, _∙_, subst}
 use lib.ListN.{getD}
 use Rattle.sets.specs.Set.{only}
 use Rattle.list.proofs.Nodes.{no-kind}
-use Rattle.list.proofs.Marks.{pause-word, mark-nothing, mark-pause, mark-gotopause, mark-emit, mark-exit, mark-signal, mark-present, mark-sequence, mark-parallel, mark-loop, mark-try, mark-unused}
+use Rattle.list.proofs.Marks.{has-room, pause-word, mark-nothing, mark-pause, mark-gotopause, mark-emit, mark-exit, mark-signal, mark-present, mark-sequence, mark-parallel, mark-loop, mark-try, mark-unused}
 use borrow.Author.Needs.{needs}
 use Rattle.list.proofs.marking.mark_at.Statement.{statement}
 use Rattle.list.proofs.marking.mark_at.Tie as tie
@@ -28,145 +28,67 @@ singleton-requires c κs = search needs
 note-none-requires : tie.Need-note-none-requires
 note-none-requires c κs =
     let s = c .before .before .before .before .before .before .before .before .before .before .before in
-    let n = s .pre .2 in
-    let h = s .pre .0 in
-    let k = s .pre .1 in
-    let i = n .long-ends in
-    let j = n .long-nests in
-    let l = n .long-labels in
-    record { in-ends = omega arith; in-nests = omega arith; in-labels = omega arith; short = omega arith }
+    has-room (s .pre .2) (s .pre .0) (s .pre .1)
 
 note-none-requires-2 : tie.Need-note-none-requires-2
 note-none-requires-2 c κs =
     let s = c .before .before .before .before .before .before .before .before .before .before .before in
-    let n = s .pre .2 in
-    let h = s .pre .0 in
-    let k = s .pre .1 in
-    let i = n .long-ends in
-    let j = n .long-nests in
-    let l = n .long-labels in
-    record { in-ends = omega arith; in-nests = omega arith; in-labels = omega arith; short = omega arith }
+    has-room (s .pre .2) (s .pre .0) (s .pre .1)
 
 note-none-requires-3 : tie.Need-note-none-requires-3
 note-none-requires-3 c κs =
     let s = c .before .before .before .before .before .before .before .before .before .before .before in
-    let n = s .pre .2 in
-    let h = s .pre .0 in
-    let k = s .pre .1 in
-    let i = n .long-ends in
-    let j = n .long-nests in
-    let l = n .long-labels in
-    record { in-ends = omega arith; in-nests = omega arith; in-labels = omega arith; short = omega arith }
+    has-room (s .pre .2) (s .pre .0) (s .pre .1)
 
 note-none-requires-4 : tie.Need-note-none-requires-4
 note-none-requires-4 c κs =
     let s = c .before .before .before .before .before .before .before .before .before .before .before in
-    let n = s .pre .2 in
-    let h = s .pre .0 in
-    let k = s .pre .1 in
-    let i = n .long-ends in
-    let j = n .long-nests in
-    let l = n .long-labels in
-    record { in-ends = omega arith; in-nests = omega arith; in-labels = omega arith; short = omega arith }
+    has-room (s .pre .2) (s .pre .0) (s .pre .1)
 
 note-none-requires-5 : tie.Need-note-none-requires-5
 note-none-requires-5 c κs =
     let s = c .before .before .before .before .before .before .before .before .before .before .before in
-    let n = s .pre .2 in
-    let h = s .pre .0 in
-    let k = s .pre .1 in
-    let i = n .long-ends in
-    let j = n .long-nests in
-    let l = n .long-labels in
-    record { in-ends = omega arith; in-nests = omega arith; in-labels = omega arith; short = omega arith }
+    has-room (s .pre .2) (s .pre .0) (s .pre .1)
 
 note-signal-requires : tie.Need-note-signal-requires
 note-signal-requires c κs =
     let s = c .before .before .before .before .before .before .before .before .before .before .before in
-    let n = s .pre .2 in
-    let h = s .pre .0 in
-    let k = s .pre .1 in
-    let i = n .long-ends in
-    let j = n .long-nests in
-    let l = n .long-labels in
-    record { in-ends = omega arith; in-nests = omega arith; in-labels = omega arith; short = omega arith }
+    has-room (s .pre .2) (s .pre .0) (s .pre .1)
 
 note-two-requires : tie.Need-note-two-requires
 note-two-requires c κs =
     let s = c .before .before .before .before .before .before .before .before .before .before .before in
-    let n = s .pre .2 in
-    let h = s .pre .0 in
-    let k = s .pre .1 in
-    let i = n .long-ends in
-    let j = n .long-nests in
-    let l = n .long-labels in
-    record { in-ends = omega arith; in-nests = omega arith; in-labels = omega arith; short = omega arith }
+    has-room (s .pre .2) (s .pre .0) (s .pre .1)
 
 note-two-requires-2 : tie.Need-note-two-requires-2
 note-two-requires-2 c κs =
     let s = c .before .before .before .before .before .before .before .before .before .before .before in
-    let n = s .pre .2 in
-    let h = s .pre .0 in
-    let k = s .pre .1 in
-    let i = n .long-ends in
-    let j = n .long-nests in
-    let l = n .long-labels in
-    record { in-ends = omega arith; in-nests = omega arith; in-labels = omega arith; short = omega arith }
+    has-room (s .pre .2) (s .pre .0) (s .pre .1)
 
 note-two-requires-3 : tie.Need-note-two-requires-3
 note-two-requires-3 c κs =
     let s = c .before .before .before .before .before .before .before .before .before .before .before in
-    let n = s .pre .2 in
-    let h = s .pre .0 in
-    let k = s .pre .1 in
-    let i = n .long-ends in
-    let j = n .long-nests in
-    let l = n .long-labels in
-    record { in-ends = omega arith; in-nests = omega arith; in-labels = omega arith; short = omega arith }
+    has-room (s .pre .2) (s .pre .0) (s .pre .1)
 
 note-one-requires : tie.Need-note-one-requires
 note-one-requires c κs =
     let s = c .before .before .before .before .before .before .before .before .before .before .before in
-    let n = s .pre .2 in
-    let h = s .pre .0 in
-    let k = s .pre .1 in
-    let i = n .long-ends in
-    let j = n .long-nests in
-    let l = n .long-labels in
-    record { in-ends = omega arith; in-nests = omega arith; in-labels = omega arith; short = omega arith }
+    has-room (s .pre .2) (s .pre .0) (s .pre .1)
 
 note-one-requires-2 : tie.Need-note-one-requires-2
 note-one-requires-2 c κs =
     let s = c .before .before .before .before .before .before .before .before .before .before .before in
-    let n = s .pre .2 in
-    let h = s .pre .0 in
-    let k = s .pre .1 in
-    let i = n .long-ends in
-    let j = n .long-nests in
-    let l = n .long-labels in
-    record { in-ends = omega arith; in-nests = omega arith; in-labels = omega arith; short = omega arith }
+    has-room (s .pre .2) (s .pre .0) (s .pre .1)
 
 note-none-requires-6 : tie.Need-note-none-requires-6
 note-none-requires-6 c κs =
     let s = c .before .before .before .before .before .before .before .before .before .before .before .before in
-    let n = s .pre .2 in
-    let h = s .pre .0 in
-    let k = s .pre .1 in
-    let i = n .long-ends in
-    let j = n .long-nests in
-    let l = n .long-labels in
-    record { in-ends = omega arith; in-nests = omega arith; in-labels = omega arith; short = omega arith }
+    has-room (s .pre .2) (s .pre .0) (s .pre .1)
 
 note-none-requires-7 : tie.Need-note-none-requires-7
 note-none-requires-7 c κs =
     let s = c .before .before .before .before .before .before .before .before .before .before .before .before in
-    let n = s .pre .2 in
-    let h = s .pre .0 in
-    let k = s .pre .1 in
-    let i = n .long-ends in
-    let j = n .long-nests in
-    let l = n .long-labels in
-    record { in-ends = omega arith; in-nests = omega arith; in-labels = omega arith; short = omega arith }
+    has-room (s .pre .2) (s .pre .0) (s .pre .1)
 
 same-length : tie.Need-same-length
 same-length c = search needs
