@@ -1,21 +1,26 @@
 -- Lists that lie one above the other in an area: what is made of them is what the capped listing makes of its parts. Over 64
 -- reactions, or too small an area, in a part is so of the whole.
 use mathlib.Core.Path.{_≡_, refl, sym, ap, ap₂, _∙_, subst}
-use mathlib.Core.Bool.{Bool, true, false, cond}
-use mathlib.Core.List.{List, [], _∷_, _++_}
-use mathlib.Core.Option.{Option, none, some}
+use mathlib.Core.Logic.{_⊎_, inl, inr}
+use mathlib.Core.Bool.{Bool, true, false}
+use mathlib.Core.List.{List}
+use mathlib.Core.Option.{none, some}
 use Prim.Native.Nat.{ℕ, _+_, _*_, _≤_, _<_}
 use native.Mathlib.Omega.{arith}
 use native.Mathlib.Decide.{decLe}
-use lib.ListN.{length, getD}
+use lib.ListN.{length}
+use Rattle.sets.proofs.Booleans.{clash}
 use Rattle.esterel.specs.Reactions.{Reaction}
-use Rattle.esterel.specs.Listing.{Rising, follow, someEnds}
+use Rattle.esterel.specs.Listing.{Rising, hide, follow, together, going, caught, someEnds}
 use Rattle.area.specs.declared.Change.{Change}
-use Rattle.area.specs.Rules.{change}
-use Rattle.area.specs.Area.{rows, collect, Low, Made, Altered, Beside, Merged}
+use Rattle.area.specs.declared.Change.the-variants.{Hide, Going, Caught}
+use Rattle.area.specs.declared.Pairing.the-variants.{Sequence, Parallel}
+use Rattle.area.specs.Rules.{changed, change, joined as joined-one, joinedAll, pairs, product}
+use Rattle.area.specs.Area.{rows, Made, Altered, Beside, Merged}
 use Rattle.area.proofs.Rows.{rows-agree}
-use Rattle.area.proofs.Made.{made-as, made-need, made-cramped}
+use Rattle.area.proofs.Made.{made-as, made-need, made-there}
 use Rattle.list.specs.Capped.{Capped, changeIn, joinIn, followIn}
+use Rattle.list.specs.Joins.{Above, Joined, Standing, Followed}
 
 -- what was made after something else
 pub made-after : {a₀ a b : List ℕ} {base need more n r : ℕ} {v w : Capped} → Made a₀ a base need v n → Made a b base more w r → more ≤ need → Made a₀ b base need w r
@@ -48,18 +53,6 @@ module _ (f : Change) {a₀ a b : List ℕ} {base need n r : ℕ} {v : Capped} (
           subst (λ (z : List ℕ). Made a₀ z base need (changeIn (change f) v) r) (sym (x .large k .1))
           (subst (λ (z : ℕ). Made a₀ a base need (changeIn (change f) v) z) (sym (x .large k .0)) (made-none m k (λ e. ap (changeIn (change f)) e)))
 
--- nothing is made above a list that is none, or that leaves no room
-pub made-stopped : {a₀ a : List ℕ} {base need n t : ℕ} {v w : Capped} → Made a₀ a base need v n → (64 < n → t ≡ n) × (n ≤ 64 → t ≡ 66) → (n ≤ 64 → length a < base + 2 * n + 2)
-    → (v ≡ none → w ≡ none) → base + 130 ≤ need → Made a₀ a base need w t
-made-stopped {a₀} {a} {base} {need} {n} {t} {v} {w} m s r f h = go (decLe n 64)
-  where
-    go : Dec (n ≤ 64) → Made a₀ a base need w t
-    go (yes k) =
-        let small = r k in
-        let e = m .same in
-        made-after m (made-cramped a base need t w (let z = s .1 k in omega arith) (omega arith)) (omega arith)
-    go (no k) = let l : 64 < n = omega arith in subst (λ (z : ℕ). Made a₀ a base need w z) (sym (s .0 l)) (made-none m l f)
-
 -- ---- two lists: v stands at base, n₁ reactions, and w above it
 module _ {a₀ a b : List ℕ} {base need n₁ n₂ : ℕ} {v w : Capped} (m : Made a₀ a base need v n₁) (h : n₁ ≤ 64) (p : Made a b (base + 2 * n₁) need w n₂) where
   still : rows b base n₁ ≡ rows a base n₁
@@ -80,7 +73,7 @@ module _ {a₀ a b : List ℕ} {base need n₁ n₂ : ℕ} {v w : Capped} (m : M
         next = λ k. (let g = p .fits k in omega arith, p .rising k);
       }
 
-  pub merged : (g : List Reaction → List Reaction → List Reaction) {c : List ℕ} {r : ℕ} → base + 386 ≤ need → Merged g b c base n₁ n₂ r → Made a₀ c base need (joinIn g v w) r
+  merged : (g : List Reaction → List Reaction → List Reaction) {c : List ℕ} {r : ℕ} → base + 386 ≤ need → Merged g b c base n₁ n₂ r → Made a₀ c base need (joinIn g v w) r
   unfolding joinIn
   merged g {c} {r} room x = go (decLe n₂ 64)
     where
@@ -117,29 +110,134 @@ module _ {a₀ a b : List ℕ} {base need n₁ n₂ : ℕ} {v w : Capped} (m : M
           subst (λ (z : List ℕ). Made a₀ z base need (joinIn g v w) r) (sym (x .large l .1))
           (subst (λ (z : ℕ). Made a₀ b base need (joinIn g v w) z) (sym (x .large l .0)) (second l))
 
--- ---- what follows a list
-pub join-stops : (g : List Reaction → List Reaction → List Reaction) {v : Capped} (w : Capped) → v ≡ none → joinIn g v w ≡ none
+join-stops : (g : List Reaction → List Reaction → List Reaction) {v : Capped} (w : Capped) → v ≡ none → joinIn g v w ≡ none
 unfolding joinIn
 join-stops g w e = ap (λ (z : Capped). joinIn g z w) e
 
-pub follow-stops : {v : Capped} (w : Capped) → v ≡ none → followIn v w ≡ none
+-- what was made at the end of the area has no reaction, and can be thought of as lower down
+no-rows : (a : List ℕ) (q p n : ℕ) → n ≡ 0 → rows a q n ≡ rows a p n
+unfolding rows
+no-rows a q p n e = ap (rows a q) e ∙ sym (ap (rows a p) e)
+
+made-end : {a b : List ℕ} {top more need n : ℕ} {w : Capped} (q : ℕ) → Made a b top more w n → length a ≤ top → q ≤ length a → length a < need → Made a b q need w n
+made-end {a} {b} {top} {more} {need} {n} q p e f g = record {
+  same = p .same;
+  low = λ i k. p .low i (omega arith);
+  fits = λ k. let z = none k in omega arith;
+  listed = λ k. p .listed k ∙ ap some (no-rows b top q n (none k));
+  rising = λ k. subst Rising (no-rows b top q n (none k)) (p .rising k);
+  over = p .over;
+  cramped = λ k. g;
+}
+  where
+    none : n ≤ 64 → n ≡ 0
+    none k = let z = p .fits k in omega arith
+
+-- the same where w was made at the top that stands above v
+module _ {a₀ a : List ℕ} {base need n₁ top : ℕ} {v : Capped} (m : Made a₀ a base need v n₁) (t : Above a base n₁ top) (room : base + 386 ≤ need) where
+  above-first : {b : List ℕ} {more n₂ : ℕ} {w : Capped} → n₁ ≤ 64 → Made a b top more w n₂ → (n₁ ≤ 64 → top ≡ base + 2 * n₁ → more ≤ need) → Made a b (base + 2 * n₁) need w n₂
+  above-first {b} {more} {n₂} {w} h p k = go (t .small h)
+    where
+      go : (top ≡ base + 2 * n₁) ⊎ (length a ≤ top) × (length a < base + 2 * n₁ + 2) → Made a b (base + 2 * n₁) need w n₂
+      go (inl e) = subst (λ (z : ℕ). Made a b z need w n₂) e (made-need need p (k h e))
+      go (inr (e, f)) = made-end (base + 2 * n₁) p e (let z = m .fits h in let s = m .same in omega arith) (omega arith)
+
+  pub beside-top : {b : List ℕ} {more n₂ : ℕ} {w : Capped} → Made a b top more w n₂ → (n₁ ≤ 64 → top ≡ base + 2 * n₁ → more ≤ need) → n₁ ≤ 64 → Beside b base n₁ n₂
+  beside-top p k h = beside m h (above-first h p k)
+
+  pub joined : (g : List Reaction → List Reaction → List Reaction) {b c : List ℕ} {more n₂ r : ℕ} {w : Capped} → Made a b top more w n₂ → (n₁ ≤ 64 → top ≡ base + 2 * n₁ → more ≤ need)
+      → base ≤ length a₀ → Joined g b c base n₁ n₂ r → Made a₀ c base need (joinIn g v w) r
+  joined g {b} {c} {more} {n₂} {r} {w} p k l x = go (decLe n₁ 64)
+    where
+      none-made : 64 < n₁ → Made a₀ b base need (joinIn g v w) n₁
+      none-made h = record {
+        same = p .same ∙ m .same;
+        low = λ i q. p .low i (let e = t .large h in let s = m .same in omega arith) ∙ m .low i q;
+        fits = λ q. absurd (omega arith);
+        listed = λ q. absurd (omega arith);
+        rising = λ q. absurd (omega arith);
+        over = λ q. join-stops g w (m .over q);
+        cramped = m .cramped;
+      }
+
+      go : Dec (n₁ ≤ 64) → Made a₀ c base need (joinIn g v w) r
+      go (yes h) = merged m h (above-first h p k) g room (x .small h)
+      go (no h) =
+          let q : 64 < n₁ = omega arith in
+          subst (λ (z : List ℕ). Made a₀ z base need (joinIn g v w) r) (sym (x .large q .1))
+          (subst (λ (z : ℕ). Made a₀ b base need (joinIn g v w) z) (sym (x .large q .0)) (none-made q))
+
+-- ---- the code's changes and pairings are the rules'
+pub hide-is : (S : ℕ) → change (Hide S) ≡ hide S
+unfolding change changed hide
+hide-is S = refl
+
+pub going-is : change Going ≡ going
+unfolding change changed going
+going-is = refl
+
+pub caught-is : change Caught ≡ caught
+unfolding change changed caught
+caught-is = refl
+
+follow-is : product Sequence ≡ follow
+unfolding product pairs joinedAll joined-one follow
+follow-is = refl
+
+pub together-is : product Parallel ≡ together
+unfolding product pairs joinedAll joined-one together
+together-is = refl
+
+-- ---- what follows a list
+follow-stops : {v : Capped} (w : Capped) → v ≡ none → followIn v w ≡ none
 unfolding followIn
 follow-stops w e = ap (λ (z : Capped). followIn z w) e
 
-module _ {a₀ a : List ℕ} {base need n : ℕ} {v : Capped} (m : Made a₀ a base need v n) (h : n ≤ 64) (w : Capped) where
-  -- no reaction ends
-  follow-stays : someEnds (rows a base n) ≡ false → v ≡ followIn v w
+pub ending-small : {n : ℕ} {ending : Bool} → (64 < n → ending ≡ false) → ending ≡ true → n ≤ 64
+ending-small {n} s e = go (decLe n 64)
+  where
+    go : Dec (n ≤ 64) → n ≤ 64
+    go (yes h) = h
+    go (no h) = absurd (clash e (s (omega arith)))
+
+-- `ending` says whether there is a list of which some reaction ends
+module _ {a₀ a : List ℕ} {base need n : ℕ} {v : Capped} (m : Made a₀ a base need v n) (w : Capped) {ending : Bool} (s : (n ≤ 64 → ending ≡ someEnds (rows a base n)) × (64 < n → ending ≡ false)) where
+  follow-stays : n ≤ 64 → someEnds (rows a base n) ≡ false → v ≡ followIn v w
   unfolding followIn
-  follow-stays e =
+  follow-stays h e =
       let g : followIn (some (rows a base n)) w ≡ some (rows a base n) = rw e in
       m .listed h ∙ sym (ap (λ (y : Capped). followIn y w) (m .listed h) ∙ g)
 
-  pub followed-not : someEnds (rows a base n) ≡ false → Made a₀ a base need (followIn v w) n
-  followed-not e = made-as m (follow-stays e)
+  pub followed-not : ending ≡ false → Made a₀ a base need (followIn v w) n
+  followed-not e = go (decLe n 64)
+    where
+      go : Dec (n ≤ 64) → Made a₀ a base need (followIn v w) n
+      go (yes h) = made-as m (follow-stays h (sym (s .0 h) ∙ e))
+      go (no h) = made-none m (omega arith) (follow-stops w)
 
-  -- some reaction ends
-  pub follow-goes : someEnds (rows a base n) ≡ true → joinIn follow v w ≡ followIn v w
+  follow-goes : n ≤ 64 → someEnds (rows a base n) ≡ true → joinIn (product Sequence) v w ≡ followIn v w
   unfolding followIn
-  follow-goes e =
+  follow-goes h e =
       let g : followIn (some (rows a base n)) w ≡ joinIn follow (some (rows a base n)) w = rw e in
-      sym (ap (λ (y : Capped). followIn y w) (m .listed h) ∙ g ∙ ap (λ (y : Capped). joinIn follow y w) (sym (m .listed h)))
+      ap (λ (f : List Reaction → List Reaction → List Reaction). joinIn f v w) follow-is
+      ∙ sym (ap (λ (y : Capped). followIn y w) (m .listed h) ∙ g ∙ ap (λ (y : Capped). joinIn follow y w) (sym (m .listed h)))
+
+  pub followed-by : (e : ending ≡ true) {b c : List ℕ} {n₂ r : ℕ} → Made a b (base + 2 * n) need w n₂ → base + 386 ≤ need → Merged (product Sequence) b c base n n₂ r → Made a₀ c base need (followIn v w) r
+  followed-by e p room x = let h = ending-small (s .1) e in made-as (merged m h p (product Sequence) room x) (follow-goes h (sym (s .0 h) ∙ e))
+
+-- the same for a list that stands there
+pub standing : {a₀ a : List ℕ} {base need n : ℕ} {v : Capped} → Made a₀ a base need v n → Standing a base n
+standing m h = let f = m .fits h in let e = m .same in (omega arith, m .rising h)
+
+pub standing-made : {a : List ℕ} {base need n : ℕ} → Standing a base n → n ≤ 64 → Made a a base need (some (rows a base n)) n
+standing-made {a} {base} {need} {n} s h = made-there a base need n (some (rows a base n)) h (s h .0) (s h .1) refl
+
+pub followed : {a₀ a b : List ℕ} {base need more n r : ℕ} {v w : Capped} → Made a₀ a base need v n → Followed w a b base more n r → more ≤ need → Made a₀ b base need (followIn v w) r
+followed {a₀} {a} {b} {base} {need} {more} {n} {r} {v} {w} m x l = go (decLe n 64)
+  where
+    go : Dec (n ≤ 64) → Made a₀ b base need (followIn v w) r
+    go (yes h) = made-as (made-after m (x .small h) l) (ap (λ (z : Capped). followIn z w) (sym (m .listed h)))
+    go (no h) =
+        let k : 64 < n = omega arith in
+        subst (λ (z : List ℕ). Made a₀ z base need (followIn v w) r) (sym (x .large k .1))
+        (subst (λ (z : ℕ). Made a₀ a base need (followIn v w) z) (sym (x .large k .0)) (made-none m k (follow-stops w)))

@@ -8,3 +8,4 @@ pub mod Findings
 pub mod Limits
 pub mod Fills
 pub mod Deliveries
+pub mod Cases

@@ -4,14 +4,14 @@ use mathlib.Core.Path.{_≡_, refl, sym, ap, _∙_, subst}
 use mathlib.Core.Logic.{_⊎_, inl, inr}
 use mathlib.Core.Bool.{Bool, true, false, cond}
 use mathlib.Core.List.{List, [], _∷_, _++_}
-use mathlib.Core.Option.{Option, none, some, Option·none-ne-some, Option·some-injective}
-use Prim.Native.Nat.{ℕ, zero, suc, _+_, _*_, _/_, _%_, _≤_, _<_, min}
+use mathlib.Core.Option.{none, some, Option·none-ne-some, Option·some-injective}
+use Prim.Native.Nat.{ℕ, zero, suc, _+_, _≤_, _<_, min}
 use native.Mathlib.Omega.{arith}
-use native.Mathlib.Decide.{decLe, decLt}
-use lib.ListN.{length, getD, take, List·getD-eq-default}
+use native.Mathlib.Decide.{decLe}
+use lib.ListN.{length, getD, take}
+use lib.Seq.{getD-take}
 use borrow.Author.Tests.{lt-ltb, le-ltb}
-use Rattle.sets.proofs.Booleans.{clash}
-use Rattle.esterel.specs.Statement.{Statement, nothing, pause, gotopause, emit, exit, signal, present, sequence, parallel, loop, try, depth, Valid}
+use Rattle.esterel.specs.Statement.{Statement, nothing, pause, gotopause, emit, exit, signal, present, sequence, parallel, loop, try, size, depth, Valid}
 use Rattle.esterel.specs.Reactions.{State, Reaction}
 use Rattle.esterel.specs.Listing.{Listed, list, listing, crowded, nesting}
 use Rattle.table.specs.declared.Checked.{Checked}
@@ -20,21 +20,18 @@ use Rattle.table.specs.Reading as reading
 use Rattle.table.specs.Reading.{Table, holds, tableOf, checkOf, nodesOf, kindOfNode, operandOf}
 use Rattle.table.specs.Writing.{node, nodes}
 use Rattle.table.specs.Loading.{loadedOf}
-use Rattle.table.specs.Places.{Placed, statementAt}
-use Rattle.table.proofs.Nodes.{kind-node, operand-node}
+use Rattle.table.specs.Places.{Placed, placed}
+use Rattle.table.proofs.Nodes.{kind-node, operand-node, length-nodes}
 use Rattle.table.proofs.Accepted.{accepted, check-refused}
-use Rattle.table.proofs.Cutting.{length-nodesOf}
-use Rattle.table.proofs.Loading.{load-accepted}
-use Rattle.table.proofs.Places.{placed-table}
+use Rattle.table.proofs.Loading.{load-accepted, placed-loaded}
 use Rattle.area.specs.Area.{rows, Made}
 use Rattle.area.proofs.Rows.{rows-length}
 use Rattle.list.specs.declared.Answer.{Answer}
 use Rattle.list.specs.declared.Answer.the-variants as answer
 use Rattle.list.specs.Capped.{Capped, capped}
-use Rattle.list.specs.Notes.{Whole, Narrow, Sound, Noted, Ready, Resumable}
+use Rattle.list.specs.Notes.{placeAt, partAt, NestsFrom, Sound, Noted, Resumable}
 use Rattle.list.specs.Answers.{Found, refused, found, stateOf, reactionsOf, foundIn, answerOf, Finds}
 use Rattle.list.proofs.Capped.{capped-is}
-use Rattle.list.proofs.Marks.{nests-right}
 
 never : (w : ℕ) (ts : List Reaction) → refused w ≡ found ts → ⊥
 never w ts e = let z : _≡_ {A = ℕ} 0 1 = cc in omega arith
@@ -88,15 +85,13 @@ module _ (p : Statement) (x : State) (E nest : ℕ) (e : nest ≡ min 13 (nestin
           (ap (rows b 0) long ∙ q, omega arith)
 
 -- ---- marked nodes can be listed
-pub marked-resumable : (xs ends nests labels : List ℕ) → Sound xs → Noted 0 xs ends nests labels → Resumable xs ends labels 0 60
-marked-resumable xs ends nests labels s n = record {
-  ready = record { long = n .long-ends; right = n .right-ends; narrow = s .narrow; whole = s .whole };
-  long-labels = n .long-labels;
-  right-labels = n .right-labels;
-}
+module _ {n : ℕ} {xs ends nests labels : List ℕ} (s : Sound xs n) (c : Noted 0 n xs ends nests labels) where
+  pub marked-resumable : Resumable xs ends labels 0
+  marked-resumable = record { ready = record { count = n; few = s .few; right = c .right-ends; narrow = s .narrow; whole = s .whole }; right-labels = c .right-labels }
 
-pub marked-nest : (xs ends nests labels : List ℕ) → Sound xs → Noted 0 xs ends nests labels → (nest : ℕ) → nest ≡ getD nests 0 0 → nest ≡ min 13 (nesting (statementAt 60 xs 0 .statement))
-marked-nest xs ends nests labels s n nest e = e ∙ nests-right 0 xs nests (n .long-nests) (n .right-nests) 60 0 (omega arith) (s .whole)
+  pub marked-nest : (nest : ℕ) → nest ≡ getD nests 0 0 → nest ≡ min 13 (nesting (partAt xs 0))
+  unfolding NestsFrom
+  marked-nest nest e = e ∙ c .right-nests 0 (omega arith) (s .whole)
 
 -- ---- the nodes of an accepted table
 split : (x : ℕ) (xs ys : List ℕ) → Listed x (xs ++ ys) → Listed x xs ⊎ Listed x ys
@@ -151,29 +146,6 @@ listed-at [] i h = absurd (omega arith)
 listed-at (x ∷ xs) zero h = inl refl
 listed-at (x ∷ xs) (suc i) h = inr (listed-at xs i (omega arith))
 
-narrow-places : (xs : List ℕ) → Narrows xs → Narrow xs
-narrow-places xs f i h = go (decLt i (length xs))
-  where
-    go : Dec (i < length xs) → operandOf (getD xs i 0) < 32
-    go (yes k) = f (getD xs i 0) (listed-at xs i k) h
-    go (no k) = let e : getD xs i 0 ≡ 0 = List·getD-eq-default xs 0 (omega arith) in absurd (omega arith)
-
-module _ (t : List ℕ) (n : ℕ) (p : Statement) (h : tableOf t ≡ holds n p) where
-  table-statement : statementAt 60 (nodesOf t n) 0 .statement ≡ p
-  table-statement = ap (λ (q : Placed). q .statement) (placed-table t n p h)
-
-  table-sound : Sound (nodesOf t n)
-  table-sound =
-      let a = accepted t n p h in
-      let few = a .header .few in
-      let count = length-nodesOf t n in
-      let deep = a .deep in
-      record {
-        few = omega arith;
-        narrow = subst Narrow (sym (a .nodes-are)) (narrow-places (nodes p) (narrow-nodes 0 p (a .valid)));
-        whole = subst (λ (q : Statement). depth q ≤ 60) (sym table-statement) deep;
-      }
-
 -- ---- a table, by the answer of check
 module _ (t old new : List ℕ) (c : Checked) (h : (c ≡ checkOf t) × (new ≡ loadedOf t old)) where
   pub finds-refused : (E mark X w why : ℕ) (a : List ℕ) → c ≡ checked.Refused w → why ≡ reading.refusalOf c → Finds (foundIn (tableOf t) E mark X) (answer.Refused why) a a
@@ -186,17 +158,32 @@ module _ (t old new : List ℕ) (c : Checked) (h : (c ≡ checkOf t) × (new ≡
     loaded : (p : Statement) × (tableOf t ≡ holds n p) × (take n new ≡ nodesOf t n)
     loaded = load-accepted t old new n (sym (h .0) ∙ e) (h .1)
 
-    pub part-length : n ≡ length (take n new)
-    part-length = sym (ap length (loaded .2) ∙ length-nodesOf t n)
+    root : placeAt new 0 ≡ placed (loaded .0) n
+    root = ap (λ (xs : List ℕ). placeAt xs 0) (h .1) ∙ placed-loaded t old n (loaded .0) (loaded .1)
 
-    pub part-sound : Sound (take n new)
-    part-sound = subst Sound (sym (loaded .2)) (table-sound t n (loaded .0) (loaded .1))
+    pub loaded-sound : Sound new n
+    loaded-sound =
+        let p : Statement = loaded .0 in
+        let a = accepted t n p (loaded .1) in
+        let few = a .header .few in
+        let long = a .count in
+        let front : take n new ≡ nodes p = loaded .2 ∙ a .nodes-are in
+        let count : length (nodes p) ≡ n = length-nodes p ∙ long in
+        record {
+          few = omega arith;
+          narrow = λ i b k.
+              let same : getD (nodes p) i 0 ≡ getD new i 0 = ap (λ (xs : List ℕ). getD xs i 0) (sym front) ∙ getD-take n new i 0 b in
+              subst (λ (z : ℕ). operandOf z < 32) same (narrow-nodes 0 p (a .valid) (getD (nodes p) i 0) (listed-at (nodes p) i (omega arith)) (ap kindOfNode same ∙ k));
+          whole = record {
+            shallow = subst (λ (q : Placed). depth (q .statement) ≤ 60) (sym root) (a .deep);
+            full = subst (λ (q : Placed). 0 + size (q .statement) ≤ q .next) (sym root) (omega arith);
+            within = subst (λ (q : Placed). q .next ≤ n) (sym root) (omega arith);
+          };
+        }
 
-    pub finds-accepted : (E mark X : ℕ) {r : Answer} {a b : List ℕ} → Finds (reactionsOf (statementAt 60 (take n new) 0 .statement) (stateOf mark X) E) r a b → Finds (foundIn (tableOf t) E mark X) r a b
+    pub finds-accepted : (E mark X : ℕ) {r : Answer} {a b : List ℕ} → Finds (reactionsOf (partAt new 0) (stateOf mark X) E) r a b → Finds (foundIn (tableOf t) E mark X) r a b
     unfolding foundIn
     finds-accepted E mark X {r} {a} {b} f =
-        let is : reactionsOf (statementAt 60 (take n new) 0 .statement) (stateOf mark X) E ≡ foundIn (tableOf t) E mark X =
-        ap (λ (xs : List ℕ). reactionsOf (statementAt 60 xs 0 .statement) (stateOf mark X) E) (loaded .2)
-        ∙ ap (λ (q : Statement). reactionsOf q (stateOf mark X) E) (table-statement t n (loaded .0) (loaded .1))
-        ∙ sym (ap (λ (T : Table). foundIn T E mark X) (loaded .1)) in
+        let is : reactionsOf (partAt new 0) (stateOf mark X) E ≡ foundIn (tableOf t) E mark X =
+        ap (λ (q : Placed). reactionsOf (q .statement) (stateOf mark X) E) root ∙ sym (ap (λ (T : Table). foundIn T E mark X) (loaded .1)) in
         subst (λ (v : Found). Finds v r a b) is f

@@ -1,301 +1,195 @@
 -- The list of a started statement, from the lists of its children, by the node that stands there.
-use mathlib.Core.Path.{_≡_, refl, sym, ap, ap₂, _∙_, subst}
-use mathlib.Core.Logic.{_≢_, _⊎_, inl, inr}
+use mathlib.Core.Path.{_≡_, sym, ap, ap₂, _∙_, subst}
 use mathlib.Core.Bool.{Bool, true, false, cond}
-use mathlib.Core.List.{List, [], _∷_, _++_}
-use mathlib.Core.Option.{Option, none, some}
-use Prim.Native.Nat.{ℕ, zero, suc, _+_, _*_, _-_, _%_, _^_, _≤_, _<_, max}
+use mathlib.Core.List.{List, [], _∷_}
+use mathlib.Core.Option.{some}
+use Prim.Native.Nat.{ℕ, suc, _+_, _*_, _%_, _^_, _≤_, _<_}
 use native.Mathlib.Omega.{arith}
 use lib.ListN.{length, getD}
 use Rattle.sets.specs.Set.{has, only, _union_, _without_}
-use Rattle.sets.proofs.Booleans.{by-cond}
 use Rattle.esterel.specs.Statement.{Statement, nothing, pause, gotopause, emit, exit, signal, present, sequence, parallel, loop, try, depth}
 use Rattle.esterel.specs.Codes.{codeOf}
-use Rattle.esterel.specs.Reactions.{State, start, resumed, Reaction}
-use Rattle.esterel.specs.Listing.{reaction, one, onlyIf, hide, follow, together, going, caught}
-use Rattle.table.specs.Kinds.{Kind, kindOf, kinds}
+use Rattle.esterel.specs.Reactions.{State, start, Reaction}
+use Rattle.esterel.specs.Listing.{reaction, one, onlyIf}
 use Rattle.table.specs.Reading.{kindOfNode, operandOf}
-use Rattle.table.specs.Places.{Placed, placed, placeOne, placeTwo, placeKind, statementAt}
+use Rattle.table.specs.Places.{Placed, placed}
 use Rattle.area.specs.declared.Change.the-variants.{Hide, Going, Caught}
-use Rattle.area.specs.declared.Pairing.the-variants.{Sequence, Parallel}
-use Rattle.area.specs.Rules.{changed, change, joined, joinedAll, pairs, product}
+use Rattle.area.specs.declared.Pairing.the-variants.{Parallel}
+use Rattle.area.specs.Rules.{change, product}
 use Rattle.area.specs.Area.{packed, Made}
 use Rattle.area.proofs.Sets.{only-word}
 use Rattle.area.proofs.Rows.{packed-made}
 use Rattle.area.proofs.Made.{made-as, made-need, made-empty}
-use Rattle.list.specs.Capped.{Capped, changeIn, joinIn, unionIn, followIn, capped}
-use Rattle.list.specs.Notes.{endIn, Whole, Ready}
-use Rattle.list.proofs.Nodes.{Node, placed-node, placed-none, kind-unused}
-use Rattle.list.proofs.Marks.{end-right}
+use Rattle.list.specs.Capped.{changeIn, joinIn, unionIn, followIn, capped}
+use Rattle.list.specs.Notes.{placeAt, partAt, Whole, EndsFrom, Ready}
+use Rattle.list.specs.Joins.{roomFor}
+use Rattle.list.proofs.Nodes.{One, Two, before-end, is-nothing, is-pause, is-gotopause, is-emit, is-exit, is-signal, is-present, is-sequence, is-parallel, is-loop, is-try, is-unused}
+use Rattle.list.proofs.Joins.{hide-is, going-is, caught-is, together-is}
 
--- ---- the code's changes and pairings are the rules'
-pub hide-is : (S : ℕ) → change (Hide S) ≡ hide S
-unfolding change changed hide
-hide-is S = refl
+-- ---- the children can be listed too
+-- a child stands at i
+pub record Child (n : ℕ) (xs : List ℕ) (at i : ℕ) : Type 0 where
+  pub whole : Whole n xs i
+  pub less : depth (partAt xs i) < depth (partAt xs at)
 
-pub going-is : change Going ≡ going
-unfolding change changed going
-going-is = refl
+abbrev pub ready-at : {xs ends : List ℕ} {at i : ℕ} (r : Ready xs ends at) → Child (r .count) xs at i → Ready xs ends i
+ready-at r k = record { count = r .count; few = r .few; right = r .right; narrow = r .narrow; whole = k .whole }
 
-pub caught-is : change Caught ≡ caught
-unfolding change changed caught
-caught-is = refl
+pub place-few : {xs ends : List ℕ} {at : ℕ} → Ready xs ends at → at < 1024
+place-few r = let f = r .few in let b = before-end (r .whole) in omega arith
 
-pub follow-is : product Sequence ≡ follow
-unfolding product pairs joinedAll joined follow
-follow-is = refl
+pub emits-narrow : {xs ends : List ℕ} {at : ℕ} → Ready xs ends at → kindOfNode (getD xs at 0) ≡ 3 → operandOf (getD xs at 0) < 32
+emits-narrow {xs} {ends} {at} r e = r .narrow at (before-end (r .whole)) e
 
-pub together-is : product Parallel ≡ together
-unfolding product pairs joinedAll joined together
-together-is = refl
+module _ {xs ends : List ℕ} {at : ℕ} (r : Ready xs ends at) where
+  only-child : {f : Statement → Statement} → One (r .count) xs at f → Child (r .count) xs at (at + 1)
+  only-child o = record { whole = o .first; less = o .less }
 
--- ---- the statement at a place with some depth left
-module _ (left : ℕ) (xs : List ℕ) (at : ℕ) (some : left ≢ 0) (inside : at < length xs) where
-  abbrev pub operand : ℕ
-  operand = operandOf (getD xs at 0)
+  first-child : {f : Statement → Statement → Statement} → Two (r .count) xs at f → Child (r .count) xs at (at + 1)
+  first-child t = record { whole = t .first; less = t .less .0 }
 
-  abbrev pub first : Statement
-  first = statementAt (left - 1) xs (at + 1) .statement
+  -- the second child stands where the first is noted to end
+  second-place : {f : Statement → Statement → Statement} → Two (r .count) xs at f → (q : ℕ) → q ≡ getD ends (at + 1) 0 → placeAt xs (at + 1) .next ≡ q
+  unfolding EndsFrom
+  second-place t q g = sym (g ∙ r .right (at + 1) (omega arith) (t .first))
 
-  abbrev pub second : Statement
-  second = statementAt (left - 1) xs (statementAt (left - 1) xs (at + 1) .next) .statement
+  second-child : {f : Statement → Statement → Statement} → Two (r .count) xs at f → (q : ℕ) → q ≡ getD ends (at + 1) 0 → Child (r .count) xs at q
+  second-child t q g = subst (Child (r .count) xs at) (second-place t q g) (record { whole = t .second; less = t .less .1 })
 
-  is : (k : ℕ) → kindOfNode (getD xs at 0) ≡ k → statementAt left xs at ≡ placeKind (kindOf k) operand (statementAt (left - 1) xs) (at + 1)
-  is k e = placed-node {left = left} {nodes = xs} {at = at} {k = k} (record { some = some; inside = inside; kind = e })
+  pub child-signal : kindOfNode (getD xs at 0) ≡ 5 → Child (r .count) xs at (at + 1)
+  child-signal e = only-child (is-signal (r .whole) e)
 
-  pub is-nothing : kindOfNode (getD xs at 0) ≡ 0 → statementAt left xs at .statement ≡ nothing
-  unfolding placeKind kindOf kinds
-  is-nothing e = ap (λ (p : Placed). p .statement) (is 0 e)
+  pub child-present : kindOfNode (getD xs at 0) ≡ 6 → Child (r .count) xs at (at + 1)
+  child-present e = first-child (is-present (r .whole) e)
 
-  pub is-pause : kindOfNode (getD xs at 0) ≡ 1 → statementAt left xs at .statement ≡ pause operand
-  unfolding placeKind kindOf kinds
-  is-pause e = ap (λ (p : Placed). p .statement) (is 1 e)
+  pub child-sequence : kindOfNode (getD xs at 0) ≡ 7 → Child (r .count) xs at (at + 1)
+  child-sequence e = first-child (is-sequence (r .whole) e)
 
-  pub is-gotopause : kindOfNode (getD xs at 0) ≡ 2 → statementAt left xs at .statement ≡ gotopause operand
-  unfolding placeKind kindOf kinds
-  is-gotopause e = ap (λ (p : Placed). p .statement) (is 2 e)
+  pub child-parallel : kindOfNode (getD xs at 0) ≡ 8 → Child (r .count) xs at (at + 1)
+  child-parallel e = first-child (is-parallel (r .whole) e)
 
-  pub is-emit : kindOfNode (getD xs at 0) ≡ 3 → statementAt left xs at .statement ≡ emit operand
-  unfolding placeKind kindOf kinds
-  is-emit e = ap (λ (p : Placed). p .statement) (is 3 e)
+  pub child-loop : kindOfNode (getD xs at 0) ≡ 9 → Child (r .count) xs at (at + 1)
+  child-loop e = only-child (is-loop (r .whole) e)
 
-  pub is-exit : kindOfNode (getD xs at 0) ≡ 4 → statementAt left xs at .statement ≡ exit operand
-  unfolding placeKind kindOf kinds
-  is-exit e = ap (λ (p : Placed). p .statement) (is 4 e)
+  pub child-try : kindOfNode (getD xs at 0) ≡ 10 → Child (r .count) xs at (at + 1)
+  child-try e = only-child (is-try (r .whole) e)
 
-  pub is-signal : kindOfNode (getD xs at 0) ≡ 5 → statementAt left xs at .statement ≡ signal operand first
-  unfolding placeKind kindOf kinds
-  is-signal e = ap (λ (p : Placed). p .statement) (is 5 e)
+  module _ (q : ℕ) (g : q ≡ getD ends (at + 1) 0) where
+    pub child-else : kindOfNode (getD xs at 0) ≡ 6 → Child (r .count) xs at q
+    child-else e = second-child (is-present (r .whole) e) q g
 
-  pub is-present : kindOfNode (getD xs at 0) ≡ 6 → statementAt left xs at .statement ≡ present operand first second
-  unfolding placeKind kindOf kinds
-  is-present e = ap (λ (p : Placed). p .statement) (is 6 e)
+    pub child-then : kindOfNode (getD xs at 0) ≡ 7 → Child (r .count) xs at q
+    child-then e = second-child (is-sequence (r .whole) e) q g
 
-  pub is-sequence : kindOfNode (getD xs at 0) ≡ 7 → statementAt left xs at .statement ≡ sequence first second
-  unfolding placeKind kindOf kinds
-  is-sequence e = ap (λ (p : Placed). p .statement) (is 7 e)
+    pub child-beside : kindOfNode (getD xs at 0) ≡ 8 → Child (r .count) xs at q
+    child-beside e = second-child (is-parallel (r .whole) e) q g
 
-  pub is-parallel : kindOfNode (getD xs at 0) ≡ 8 → statementAt left xs at .statement ≡ parallel first second
-  unfolding placeKind kindOf kinds
-  is-parallel e = ap (λ (p : Placed). p .statement) (is 8 e)
+    two-at : {f : Statement → Statement → Statement} → Two (r .count) xs at f → partAt xs at ≡ f (partAt xs (at + 1)) (partAt xs q)
+    two-at {f} t = ap (λ (p : Placed). p .statement) (t .is) ∙ ap (λ (z : ℕ). f (partAt xs (at + 1)) (partAt xs z)) (second-place t q g)
 
-  pub is-loop : kindOfNode (getD xs at 0) ≡ 9 → statementAt left xs at .statement ≡ loop first
-  unfolding placeKind kindOf kinds
-  is-loop e = ap (λ (p : Placed). p .statement) (is 9 e)
+    pub present-at : kindOfNode (getD xs at 0) ≡ 6 → partAt xs at ≡ present (operandOf (getD xs at 0)) (partAt xs (at + 1)) (partAt xs q)
+    present-at e = two-at (is-present (r .whole) e)
 
-  pub is-try : kindOfNode (getD xs at 0) ≡ 10 → statementAt left xs at .statement ≡ try first
-  unfolding placeKind kindOf kinds
-  is-try e = ap (λ (p : Placed). p .statement) (is 10 e)
+    pub sequence-at : kindOfNode (getD xs at 0) ≡ 7 → partAt xs at ≡ sequence (partAt xs (at + 1)) (partAt xs q)
+    sequence-at e = two-at (is-sequence (r .whole) e)
 
-  pub is-unused : 10 < kindOfNode (getD xs at 0) → statementAt left xs at .statement ≡ nothing
-  unfolding placeKind
-  is-unused h =
-      ap (λ (p : Placed). p .statement) (is (kindOfNode (getD xs at 0)) refl ∙ ap (λ (k : Kind). placeKind k operand (statementAt (left - 1) xs) (at + 1)) (kind-unused (kindOfNode (getD xs at 0)) h))
-
-  -- ---- the children can be listed too
-  module _ (ends : List ℕ) (ready : Ready xs ends at left) where
-    whole-one : (f : Statement → Statement) → ((p : Statement) → depth (f p) ≡ suc (depth p)) → statementAt left xs at .statement ≡ f first → Whole (left - 1) xs (at + 1)
-    whole-one f deep e = let w = ready .whole in let d : depth (statementAt left xs at .statement) ≡ suc (depth first) = ap depth e ∙ deep first in omega arith
-
-    whole-two : (f : Statement → Statement → Statement) → ((p q : Statement) → depth (f p q) ≡ suc (max (depth p) (depth q))) → statementAt left xs at .statement ≡ f first second
-        → Whole (left - 1) xs (at + 1) × Whole (left - 1) xs (statementAt (left - 1) xs (at + 1) .next)
-    whole-two f deep e =
-        let w = ready .whole in
-        let d : depth (statementAt left xs at .statement) ≡ suc (max (depth first) (depth second)) = ap depth e ∙ deep first second in
-        (omega arith, omega arith)
-
-    at-child : (i : ℕ) → Whole (left - 1) xs i → Ready xs ends i (left - 1)
-    at-child i w = record { long = ready .long; right = ready .right; narrow = ready .narrow; whole = w }
-
-    -- the second child's place, as it is noted
-    pub second-place : (q : ℕ) → q ≡ endIn ends (at + 1) → Whole (left - 1) xs (at + 1) → q ≡ statementAt (left - 1) xs (at + 1) .next
-    second-place q e w = e ∙ end-right 0 xs ends (ready .long) (ready .right) (left - 1) (at + 1) (omega arith) w
-
-    ready-one : (f : Statement → Statement) → ((p : Statement) → depth (f p) ≡ suc (depth p)) → statementAt left xs at .statement ≡ f first → Ready xs ends (at + 1) (left - 1)
-    ready-one f deep e = at-child (at + 1) (whole-one f deep e)
-
-    module _ (f : Statement → Statement → Statement) (deep : (p q : Statement) → depth (f p q) ≡ suc (max (depth p) (depth q))) (e : statementAt left xs at .statement ≡ f first second) where
-      ready-two : Ready xs ends (at + 1) (left - 1)
-      ready-two = at-child (at + 1) (whole-two f deep e .0)
-
-      ready-second : (q : ℕ) → q ≡ endIn ends (at + 1) → Ready xs ends q (left - 1)
-      ready-second q g = let w = whole-two f deep e in at-child q (subst (λ (z : ℕ). Whole (left - 1) xs z) (sym (second-place q g (w .0))) (w .1))
-
-      second-is : (q : ℕ) → q ≡ endIn ends (at + 1) → statementAt (left - 1) xs q .statement ≡ second
-      second-is q g = ap (λ (z : ℕ). statementAt (left - 1) xs z .statement) (second-place q g (whole-two f deep e .0))
-
-    pub ready-signal : kindOfNode (getD xs at 0) ≡ 5 → Ready xs ends (at + 1) (left - 1)
-    unfolding depth
-    ready-signal e = ready-one (signal operand) (λ p. refl) (is-signal e)
-
-    pub ready-loop : kindOfNode (getD xs at 0) ≡ 9 → Ready xs ends (at + 1) (left - 1)
-    unfolding depth
-    ready-loop e = ready-one loop (λ p. refl) (is-loop e)
-
-    pub ready-try : kindOfNode (getD xs at 0) ≡ 10 → Ready xs ends (at + 1) (left - 1)
-    unfolding depth
-    ready-try e = ready-one try (λ p. refl) (is-try e)
-
-    pub ready-present : kindOfNode (getD xs at 0) ≡ 6 → Ready xs ends (at + 1) (left - 1)
-    unfolding depth
-    ready-present e = ready-two (present operand) (λ p q. refl) (is-present e)
-
-    pub ready-sequence : kindOfNode (getD xs at 0) ≡ 7 → Ready xs ends (at + 1) (left - 1)
-    unfolding depth
-    ready-sequence e = ready-two sequence (λ p q. refl) (is-sequence e)
-
-    pub ready-parallel : kindOfNode (getD xs at 0) ≡ 8 → Ready xs ends (at + 1) (left - 1)
-    unfolding depth
-    ready-parallel e = ready-two parallel (λ p q. refl) (is-parallel e)
-
-    module _ (q : ℕ) (g : q ≡ endIn ends (at + 1)) where
-      pub ready-else : kindOfNode (getD xs at 0) ≡ 6 → Ready xs ends q (left - 1)
-      unfolding depth
-      ready-else e = ready-second (present operand) (λ p q. refl) (is-present e) q g
-
-      pub ready-then : kindOfNode (getD xs at 0) ≡ 7 → Ready xs ends q (left - 1)
-      unfolding depth
-      ready-then e = ready-second sequence (λ p q. refl) (is-sequence e) q g
-
-      pub ready-beside : kindOfNode (getD xs at 0) ≡ 8 → Ready xs ends q (left - 1)
-      unfolding depth
-      ready-beside e = ready-second parallel (λ p q. refl) (is-parallel e) q g
-
-      pub present-at : kindOfNode (getD xs at 0) ≡ 6 → statementAt left xs at .statement ≡ present operand first (statementAt (left - 1) xs q .statement)
-      unfolding depth
-      present-at e = is-present e ∙ ap (present operand first) (sym (second-is (present operand) (λ p q. refl) (is-present e) q g))
-
-      pub sequence-at : kindOfNode (getD xs at 0) ≡ 7 → statementAt left xs at .statement ≡ sequence first (statementAt (left - 1) xs q .statement)
-      unfolding depth
-      sequence-at e = is-sequence e ∙ ap (sequence first) (sym (second-is sequence (λ p q. refl) (is-sequence e) q g))
-
-      pub parallel-at : kindOfNode (getD xs at 0) ≡ 8 → statementAt left xs at .statement ≡ parallel first (statementAt (left - 1) xs q .statement)
-      unfolding depth
-      parallel-at e = is-parallel e ∙ ap (parallel first) (sym (second-is parallel (λ p q. refl) (is-parallel e) q g))
+    pub parallel-at : kindOfNode (getD xs at 0) ≡ 8 → partAt xs at ≡ parallel (partAt xs (at + 1)) (partAt xs q)
+    parallel-at e = two-at (is-parallel (r .whole) e)
 
 -- ---- the capped listing of the statement at a place, by what the code made
 pub as-statement : {a b : List ℕ} {base need n : ℕ} (x : State) (E : ℕ) {p q : Statement} → Made a b base need (capped q x E) n → p ≡ q → Made a b base need (capped p x E) n
 as-statement x E m e = made-as m (ap (λ (z : Statement). capped z x E) (sym e))
 
-started-nothing : {a b : List ℕ} {base need n : ℕ} (E : ℕ) → Made a b base 0 (some (packed 0 0 ∷ [])) n → Made a b base need (capped nothing start E) n
-unfolding capped packed
-started-nothing {a} {b} {base} {need} E m = made-need need m (omega arith)
+pause-word : (x l w : ℕ) → l ≡ operandOf x → w ≡ only l % 2 ^ 64 → packed 1 w ≡ reaction 0 1 (only (operandOf x))
+unfolding packed
+pause-word x l w e f = ap (λ (z : ℕ). reaction 0 1 z) (f ∙ only-word 64 l (omega arith) ∙ ap only e)
 
--- nothing stands there
-pub list-none : {a b : List ℕ} {base need n : ℕ} (left : ℕ) (xs : List ℕ) (at E : ℕ) → (left ≡ 0) ⊎ (length xs ≤ at) → Made a b base 0 (some (packed 0 0 ∷ [])) n
-    → Made a b base need (capped (statementAt left xs at .statement) start E) n
-list-none left xs at E h m = as-statement start E (started-nothing E m) (ap (λ (p : Placed). p .statement) (placed-none left xs at h))
+module _ {xs ends : List ℕ} {at : ℕ} (ready : Ready xs ends at) {a b : List ℕ} {base n : ℕ} (E : ℕ) where
+  -- ---- statements without children
+  made-leaf : (p : Statement) → placeAt xs at ≡ placed p (at + 1) → Made a b base (base + 2) (capped p start E) n → Made a b base (base + roomFor (partAt xs at)) (capped (partAt xs at) start E) n
+  made-leaf p e m = made-need (base + roomFor (partAt xs at)) (as-statement start E m (ap (λ (q : Placed). q .statement) e)) (omega arith)
 
--- the statement of the first child, and the one at a place q
-abbrev pub bodyOf : ℕ → List ℕ → ℕ → Statement
-bodyOf left xs at = statementAt (left - 1) xs (at + 1) .statement
+  pub list-nothing : kindOfNode (getD xs at 0) ≡ 0 → Made a b base (base + 2) (some (packed 0 0 ∷ [])) n → Made a b base (base + roomFor (partAt xs at)) (capped (partAt xs at) start E) n
+  unfolding capped packed
+  list-nothing e m = made-leaf nothing (is-nothing (ready .whole) e) m
 
-abbrev pub otherOf : ℕ → List ℕ → ℕ → Statement
-otherOf left xs q = statementAt (left - 1) xs q .statement
+  pub list-unused : 10 < kindOfNode (getD xs at 0) → Made a b base (base + 2) (some (packed 0 0 ∷ [])) n → Made a b base (base + roomFor (partAt xs at)) (capped (partAt xs at) start E) n
+  unfolding capped packed
+  list-unused h m = made-leaf nothing (is-unused (ready .whole) h) m
 
-module _ (left : ℕ) (xs : List ℕ) (at : ℕ) (some-left : left ≢ 0) (inside : at < length xs) {a b : List ℕ} {base need n : ℕ} (E : ℕ) where
-  pub list-nothing : kindOfNode (getD xs at 0) ≡ 0 → Made a b base 0 (some (packed 0 0 ∷ [])) n → Made a b base need (capped (statementAt left xs at .statement) start E) n
-  list-nothing e m = as-statement start E (started-nothing E m) (is-nothing left xs at some-left inside e)
-
-  pub list-unused : 10 < kindOfNode (getD xs at 0) → Made a b base 0 (some (packed 0 0 ∷ [])) n → Made a b base need (capped (statementAt left xs at .statement) start E) n
-  list-unused h m = as-statement start E (started-nothing E m) (is-unused left xs at some-left inside h)
-
-  pause-word : (l w : ℕ) → l ≡ operandOf (getD xs at 0) → w ≡ only l % 2 ^ 64 → Made a b base 0 (some (packed 1 w ∷ [])) n
-      → Made a b base need (some (one (reaction 0 1 (only (operandOf (getD xs at 0)))))) n
-  unfolding packed
-  pause-word l w e f m = made-need need (made-as m (ap (λ (z : ℕ). some (one (reaction 0 1 z))) (f ∙ only-word 64 l (omega arith) ∙ ap only e))) (omega arith)
-
-  pub list-pause : kindOfNode (getD xs at 0) ≡ 1 → (l w : ℕ) → l ≡ operandOf (getD xs at 0) → w ≡ only l % 2 ^ 64 → Made a b base 0 (some (packed 1 w ∷ [])) n → Made a b base need (capped (statementAt left xs at .statement) start E) n
+  pub list-pause : kindOfNode (getD xs at 0) ≡ 1 → (l w : ℕ) → l ≡ operandOf (getD xs at 0) → w ≡ only l % 2 ^ 64 → Made a b base (base + 2) (some (packed 1 w ∷ [])) n → Made a b base (base + roomFor (partAt xs at)) (capped (partAt xs at) start E) n
   unfolding capped
-  list-pause e l w f g m = as-statement start E {q = pause (operandOf (getD xs at 0))} (pause-word l w f g m) (is-pause left xs at some-left inside e)
+  list-pause e l w f g m = made-leaf (pause (operandOf (getD xs at 0))) (is-pause (ready .whole) e) (made-as m (ap (λ (y : Reaction). some (one y)) (pause-word (getD xs at 0) l w f g)))
 
-  pub list-gotopause : kindOfNode (getD xs at 0) ≡ 2 → (l w : ℕ) → l ≡ operandOf (getD xs at 0) → w ≡ only l % 2 ^ 64 → Made a b base 0 (some (packed 1 w ∷ [])) n → Made a b base need (capped (statementAt left xs at .statement) start E) n
+  pub list-gotopause : kindOfNode (getD xs at 0) ≡ 2 → (l w : ℕ) → l ≡ operandOf (getD xs at 0) → w ≡ only l % 2 ^ 64 → Made a b base (base + 2) (some (packed 1 w ∷ [])) n → Made a b base (base + roomFor (partAt xs at)) (capped (partAt xs at) start E) n
   unfolding capped
-  list-gotopause e l w f g m = as-statement start E {q = gotopause (operandOf (getD xs at 0))} (pause-word l w f g m) (is-gotopause left xs at some-left inside e)
+  list-gotopause e l w f g m = made-leaf (gotopause (operandOf (getD xs at 0))) (is-gotopause (ready .whole) e) (made-as m (ap (λ (y : Reaction). some (one y)) (pause-word (getD xs at 0) l w f g)))
 
-  pub list-emit : kindOfNode (getD xs at 0) ≡ 3 → (S : ℕ) → S ≡ operandOf (getD xs at 0) → Made a b base 0 (capped (emit S) start E) n → Made a b base need (capped (statementAt left xs at .statement) start E) n
-  list-emit e S f m = made-need need (as-statement start E m (is-emit left xs at some-left inside e ∙ ap emit (sym f))) (omega arith)
+  pub list-emit : kindOfNode (getD xs at 0) ≡ 3 → (S : ℕ) → S ≡ operandOf (getD xs at 0) → Made a b base (base + 2) (capped (emit S) start E) n → Made a b base (base + roomFor (partAt xs at)) (capped (partAt xs at) start E) n
+  list-emit e S f m = made-leaf (emit S) (is-emit (ready .whole) e ∙ ap (λ (z : ℕ). placed (emit z) (at + 1)) (sym f)) m
 
-  pub list-exit : kindOfNode (getD xs at 0) ≡ 4 → (d w : ℕ) → d ≡ operandOf (getD xs at 0) → w ≡ codeOf d → Made a b base 0 (some (packed w 0 ∷ [])) n → Made a b base need (capped (statementAt left xs at .statement) start E) n
+  pub list-exit : kindOfNode (getD xs at 0) ≡ 4 → (d w : ℕ) → d ≡ operandOf (getD xs at 0) → w ≡ codeOf d → Made a b base (base + 2) (some (packed w 0 ∷ [])) n → Made a b base (base + roomFor (partAt xs at)) (capped (partAt xs at) start E) n
   unfolding capped codeOf
   list-exit e d w f g m =
       let z : w ≡ 0 * 256 + suc (operandOf (getD xs at 0)) = omega arith in
       let r : packed w 0 ≡ reaction 0 (suc (operandOf (getD xs at 0))) 0 = ap (λ (y : ℕ). packed y 0) z ∙ packed-made 0 (suc (operandOf (getD xs at 0))) 0 (omega arith) in
-      as-statement start E {q = exit (operandOf (getD xs at 0))} (made-need need (made-as m (ap (λ (y : Reaction). some (one y)) r)) (omega arith)) (is-exit left xs at some-left inside e)
+      made-leaf (exit (operandOf (getD xs at 0))) (is-exit (ready .whole) e) (made-as m (ap (λ (y : Reaction). some (one y)) r))
 
-  pub list-signal : (x : State) → kindOfNode (getD xs at 0) ≡ 5 → (S E₁ E₂ : ℕ) → S ≡ operandOf (getD xs at 0) → E₁ ≡ E union only S → E₂ ≡ E without S
-      → Made a b base need (unionIn (changeIn (change (Hide S)) (capped (bodyOf left xs at) x E₁)) (capped (bodyOf left xs at) x E₂)) n → Made a b base need (capped (statementAt left xs at .statement) x E) n
-  unfolding capped
-  list-signal x e S E₁ E₂ f g h m =
-      as-statement x E {q = signal S (bodyOf left xs at)}
-      (made-as m (ap₂ (λ (y z : ℕ). unionIn (changeIn (change (Hide S)) (capped (bodyOf left xs at) x y)) (capped (bodyOf left xs at) x z)) g h
-      ∙ ap (λ (y : List Reaction → List Reaction). unionIn (changeIn y (capped (bodyOf left xs at) x (E union only S))) (capped (bodyOf left xs at) x (E without S))) (hide-is S)))
-      (is-signal left xs at some-left inside e ∙ ap (λ (z : ℕ). signal z (bodyOf left xs at)) (sym f))
-
-  pub list-loop : kindOfNode (getD xs at 0) ≡ 9 → Made a b base need (changeIn (change Going) (capped (bodyOf left xs at) start E)) n → Made a b base need (capped (statementAt left xs at .statement) start E) n
-  unfolding capped
-  list-loop e m =
-      as-statement start E {q = loop (bodyOf left xs at)} (made-as m (ap (λ (g : List Reaction → List Reaction). changeIn g (capped (bodyOf left xs at) start E)) going-is)) (is-loop left xs at some-left inside e)
-
-  pub list-try : (x : State) → kindOfNode (getD xs at 0) ≡ 10 → Made a b base need (changeIn (change Caught) (capped (bodyOf left xs at) x E)) n → Made a b base need (capped (statementAt left xs at .statement) x E) n
-  unfolding capped
-  list-try x e m =
-      as-statement x E {q = try (bodyOf left xs at)} (made-as m (ap (λ (g : List Reaction → List Reaction). changeIn g (capped (bodyOf left xs at) x E)) caught-is)) (is-try left xs at some-left inside e)
-
-  -- two children, the second at the place q
-  module _ (ends : List ℕ) (ready : Ready xs ends at left) (q : ℕ) (g : q ≡ endIn ends (at + 1)) where
-    pub list-then : kindOfNode (getD xs at 0) ≡ 6 → (S : ℕ) → S ≡ operandOf (getD xs at 0) → has E S ≡ true → Made a b base need (capped (bodyOf left xs at) start E) n → Made a b base need (capped (statementAt left xs at .statement) start E) n
+  -- ---- statements with one child
+  module _ {need : ℕ} where
+    pub list-signal : (x : State) → kindOfNode (getD xs at 0) ≡ 5 → (S E₁ E₂ : ℕ) → S ≡ operandOf (getD xs at 0) → E₁ ≡ E union only S → E₂ ≡ E without S
+        → Made a b base need (unionIn (changeIn (change (Hide S)) (capped (partAt xs (at + 1)) x E₁)) (capped (partAt xs (at + 1)) x E₂)) n → Made a b base need (capped (partAt xs at) x E) n
     unfolding capped
-    list-then e S f h m =
-        as-statement start E {q = present S (bodyOf left xs at) (otherOf left xs q)} (made-as m (ap (λ (z : Bool). cond z (capped (bodyOf left xs at) start E) (capped (otherOf left xs q) start E)) (sym h)))
-        (present-at left xs at some-left inside ends ready q g e ∙ ap (λ (z : ℕ). present z (bodyOf left xs at) (otherOf left xs q)) (sym f))
+    list-signal x e S E₁ E₂ f g h m =
+        let p : Statement = partAt xs (at + 1) in
+        as-statement x E {q = signal S p}
+        (made-as m (ap₂ (λ (y z : ℕ). unionIn (changeIn (change (Hide S)) (capped p x y)) (capped p x z)) g h
+        ∙ ap (λ (y : List Reaction → List Reaction). unionIn (changeIn y (capped p x (E union only S))) (capped p x (E without S))) (hide-is S)))
+        (ap (λ (q : Placed). q .statement) (is-signal (ready .whole) e .is) ∙ ap (λ (z : ℕ). signal z p) (sym f))
 
-    pub list-else : kindOfNode (getD xs at 0) ≡ 6 → (S : ℕ) → S ≡ operandOf (getD xs at 0) → has E S ≡ false → Made a b base need (capped (otherOf left xs q) start E) n → Made a b base need (capped (statementAt left xs at .statement) start E) n
+    pub list-loop : kindOfNode (getD xs at 0) ≡ 9 → Made a b base need (changeIn (change Going) (capped (partAt xs (at + 1)) start E)) n → Made a b base need (capped (partAt xs at) start E) n
     unfolding capped
-    list-else e S f h m =
-        as-statement start E {q = present S (bodyOf left xs at) (otherOf left xs q)} (made-as m (ap (λ (z : Bool). cond z (capped (bodyOf left xs at) start E) (capped (otherOf left xs q) start E)) (sym h)))
-        (present-at left xs at some-left inside ends ready q g e ∙ ap (λ (z : ℕ). present z (bodyOf left xs at) (otherOf left xs q)) (sym f))
+    list-loop e m =
+        as-statement start E {q = loop (partAt xs (at + 1))} (made-as m (ap (λ (g : List Reaction → List Reaction). changeIn g (capped (partAt xs (at + 1)) start E)) going-is))
+        (ap (λ (q : Placed). q .statement) (is-loop (ready .whole) e .is))
 
-    pub list-sequence : kindOfNode (getD xs at 0) ≡ 7 → Made a b base need (followIn (capped (bodyOf left xs at) start E) (capped (otherOf left xs q) start E)) n → Made a b base need (capped (statementAt left xs at .statement) start E) n
+    pub list-try : (x : State) → kindOfNode (getD xs at 0) ≡ 10 → Made a b base need (changeIn (change Caught) (capped (partAt xs (at + 1)) x E)) n → Made a b base need (capped (partAt xs at) x E) n
     unfolding capped
-    list-sequence e m = as-statement start E {q = sequence (bodyOf left xs at) (otherOf left xs q)} m (sequence-at left xs at some-left inside ends ready q g e)
+    list-try x e m =
+        as-statement x E {q = try (partAt xs (at + 1))} (made-as m (ap (λ (g : List Reaction → List Reaction). changeIn g (capped (partAt xs (at + 1)) x E)) caught-is))
+        (ap (λ (q : Placed). q .statement) (is-try (ready .whole) e .is))
 
-    pub list-parallel : kindOfNode (getD xs at 0) ≡ 8 → Made a b base need (joinIn (product Parallel) (capped (bodyOf left xs at) start E) (capped (otherOf left xs q) start E)) n → Made a b base need (capped (statementAt left xs at .statement) start E) n
-    unfolding capped
-    list-parallel e m =
-        as-statement start E {q = parallel (bodyOf left xs at) (otherOf left xs q)} (made-as m (ap (λ (g : List Reaction → List Reaction → List Reaction). joinIn g (capped (bodyOf left xs at) start E) (capped (otherOf left xs q) start E)) together-is))
-        (parallel-at left xs at some-left inside ends ready q g e)
+    -- ---- two children, the second at the place q
+    module _ (q : ℕ) (g : q ≡ getD ends (at + 1) 0) where
+      branch : kindOfNode (getD xs at 0) ≡ 6 → (S : ℕ) → S ≡ operandOf (getD xs at 0) → (z : Bool) → has E S ≡ z → Made a b base need (cond z (capped (partAt xs (at + 1)) start E) (capped (partAt xs q) start E)) n
+          → Made a b base need (capped (partAt xs at) start E) n
+      unfolding capped
+      branch e S f z h m =
+          as-statement start E {q = present S (partAt xs (at + 1)) (partAt xs q)} (made-as m (ap (λ (z : Bool). cond z (capped (partAt xs (at + 1)) start E) (capped (partAt xs q) start E)) (sym h)))
+          (present-at ready q g e ∙ ap (λ (z : ℕ). present z (partAt xs (at + 1)) (partAt xs q)) (sym f))
 
--- what follows, as the code makes it
-pub product-followed : (v w : Capped) → joinIn (product Sequence) v w ≡ joinIn follow v w
-product-followed v w = ap (λ (g : List Reaction → List Reaction → List Reaction). joinIn g v w) follow-is
+      pub list-then : kindOfNode (getD xs at 0) ≡ 6 → (S : ℕ) → S ≡ operandOf (getD xs at 0) → has E S ≡ true → Made a b base need (capped (partAt xs (at + 1)) start E) n → Made a b base need (capped (partAt xs at) start E) n
+      list-then e S f h m = branch e S f true h m
+
+      pub list-else : kindOfNode (getD xs at 0) ≡ 6 → (S : ℕ) → S ≡ operandOf (getD xs at 0) → has E S ≡ false → Made a b base need (capped (partAt xs q) start E) n → Made a b base need (capped (partAt xs at) start E) n
+      list-else e S f h m = branch e S f false h m
+
+      pub list-sequence : kindOfNode (getD xs at 0) ≡ 7 → Made a b base need (followIn (capped (partAt xs (at + 1)) start E) (capped (partAt xs q) start E)) n → Made a b base need (capped (partAt xs at) start E) n
+      unfolding capped
+      list-sequence e m = as-statement start E {q = sequence (partAt xs (at + 1)) (partAt xs q)} m (sequence-at ready q g e)
+
+      pub list-parallel : kindOfNode (getD xs at 0) ≡ 8 → Made a b base need (joinIn (product Parallel) (capped (partAt xs (at + 1)) start E) (capped (partAt xs q) start E)) n → Made a b base need (capped (partAt xs at) start E) n
+      unfolding capped
+      list-parallel e m =
+          as-statement start E {q = parallel (partAt xs (at + 1)) (partAt xs q)} (made-as m (ap (λ (g : List Reaction → List Reaction → List Reaction). joinIn g (capped (partAt xs (at + 1)) start E) (capped (partAt xs q) start E)) together-is))
+          (parallel-at ready q g e)
 
 -- ---- emit
-pub emit-none : (a : List ℕ) (base E S : ℕ) → base ≤ length a → has E S ≡ false → Made a a base 0 (capped (emit S) start E) 0
+pub emit-none : (a : List ℕ) (base E S : ℕ) → base ≤ length a → has E S ≡ false → Made a a base (base + 2) (capped (emit S) start E) 0
 unfolding capped
-emit-none a base E S h e = made-as (made-empty a base h) (ap (λ (z : Bool). some (onlyIf z (one (reaction (only S) 0 0)))) (sym e))
+emit-none a base E S h e = made-need (base + 2) (made-as (made-empty a base h) (ap (λ (z : Bool). some (onlyIf z (one (reaction (only S) 0 0)))) (sym e))) (omega arith)
 
-pub emit-one : {a b : List ℕ} {base n : ℕ} (E S w : ℕ) → S < 64 → w ≡ only S % 2 ^ 64 → has E S ≡ true → Made a b base 0 (some (packed (w * 256) 0 ∷ [])) n → Made a b base 0 (capped (emit S) start E) n
+pub emit-one : {a b : List ℕ} {base n : ℕ} (E S w : ℕ) → S < 64 → w ≡ only S % 2 ^ 64 → has E S ≡ true → Made a b base (base + 2) (some (packed (w * 256) 0 ∷ [])) n → Made a b base (base + 2) (capped (emit S) start E) n
 unfolding capped
 emit-one E S w h f e m =
     let z : w * 256 ≡ w * 256 + 0 = omega arith in

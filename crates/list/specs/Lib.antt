@@ -1,4 +1,5 @@
 pub mod Capped
 pub mod Notes
+pub mod Joins
 pub mod Answers
 pub mod Buffers

@@ -18,21 +18,21 @@ ghost use Rattle.list.specs.Answers.{stateOf, reactionsOf, foundIn, Find
 // The reactions of the statement of marked nodes in the state of a mark and labels, as reacting leaves them. An area of 7,940
 // words is never too small.
 pub fn reactions(
-    nodes: &[u16],
-    ends: &[u16],
-    pauses: &[u64],
+    nodes: &[u16; 1024],
+    ends: &[u16; 1024],
+    pauses: &[u64; 1024],
     assumed: u64,
     mark: u32,
     labels: u64,
     area: &mut [u64],
 ) -> usize
-    requires { ⌜ (2 ≤ length (now area)) × Resumable (now nodes) (now ends) (now pauses) 0 60 ⌝ }
+    requires { ⌜ Resumable (now nodes) (now ends) (now pauses) 0 ⌝ }
     ensures { λ r. ⌜ Made (now (area .entry)) (now (area .exit)) 0 7940 (capped (statementAt 60 (now (nodes .entry)) 0 .statement) (stateOf mark labels) assumed) r ⌝ }
 {
     if mark == 0 {
-        return start(nodes, ends, 0, 60, assumed, area, 0);
+        return start(nodes, ends, 0, assumed, area, 0);
     }
-    resume(nodes, ends, pauses, 0, 60, assumed, labels, area, 0)
+    resume(nodes, ends, pauses, 0, assumed, labels, area, 0)
 }
 
 // The n reactions in the large area, copied to the small one.
@@ -53,16 +53,16 @@ fn copy(large: &[u64], n: usize, area: &mut [u64])
 
 // The same through an area that is large enough.
 fn reactions_through(
-    nodes: &[u16],
-    ends: &[u16],
-    pauses: &[u64],
+    nodes: &[u16; 1024],
+    ends: &[u16; 1024],
+    pauses: &[u64; 1024],
     assumed: u64,
     mark: u32,
     labels: u64,
     area: &mut [u64],
     large: &mut [u64],
 ) -> usize
-    requires { ⌜ (128 ≤ length (now area)) × (7940 ≤ length (now large)) × Resumable (now nodes) (now ends) (now pauses) 0 60 ⌝ }
+    requires { ⌜ (128 ≤ length (now area)) × (7940 ≤ length (now large)) × Resumable (now nodes) (now ends) (now pauses) 0 ⌝ }
     ensures { λ r. ⌜ Made (now (area .entry)) (now (area .exit)) 0 0 (capped (statementAt 60 (now (nodes .entry)) 0 .statement) (stateOf mark labels) assumed) r ⌝ }
 {
     let n = reactions(nodes, ends, pauses, assumed, mark, labels, large);
@@ -71,15 +71,15 @@ fn reactions_through(
 }
 
 fn reactions_large(
-    nodes: &[u16],
-    ends: &[u16],
-    pauses: &[u64],
+    nodes: &[u16; 1024],
+    ends: &[u16; 1024],
+    pauses: &[u64; 1024],
     assumed: u64,
     mark: u32,
     labels: u64,
     area: &mut [u64],
 ) -> usize
-    requires { ⌜ (128 ≤ length (now area)) × Resumable (now nodes) (now ends) (now pauses) 0 60 ⌝ }
+    requires { ⌜ (128 ≤ length (now area)) × Resumable (now nodes) (now ends) (now pauses) 0 ⌝ }
     ensures { λ r. ⌜ Made (now (area .entry)) (now (area .exit)) 0 0 (capped (statementAt 60 (now (nodes .entry)) 0 .statement) (stateOf mark labels) assumed) r ⌝ }
 {
     let mut large = [0u64; 7940];
@@ -88,15 +88,15 @@ fn reactions_large(
 
 // The same in an area of any size from 128 words on.
 pub fn reactions_in(
-    nodes: &[u16],
-    ends: &[u16],
-    pauses: &[u64],
+    nodes: &[u16; 1024],
+    ends: &[u16; 1024],
+    pauses: &[u64; 1024],
     assumed: u64,
     mark: u32,
     labels: u64,
     area: &mut [u64],
 ) -> usize
-    requires { ⌜ (128 ≤ length (now area)) × Resumable (now nodes) (now ends) (now pauses) 0 60 ⌝ }
+    requires { ⌜ (128 ≤ length (now area)) × Resumable (now nodes) (now ends) (now pauses) 0 ⌝ }
     ensures { λ r. ⌜ Made (now (area .entry)) (now (area .exit)) 0 0 (capped (statementAt 60 (now (nodes .entry)) 0 .statement) (stateOf mark labels) assumed) r ⌝ }
 {
     let n = reactions(nodes, ends, pauses, assumed, mark, labels, area);
@@ -108,84 +108,48 @@ pub fn reactions_in(
 
 // The reactions of decoded nodes, with room lent for the notes of each.
 fn find_marked(
-    nodes: &[u16],
+    nodes: &[u16; 1024],
+    count: usize,
     assumed: u32,
     mark: u32,
     labels: u64,
     area: &mut [u64],
-    ends: &mut [u16],
-    nests: &mut [u8],
-    pauses: &mut [u64],
+    ends: &mut [u16; 1024],
+    nests: &mut [u8; 1024],
+    pauses: &mut [u64; 1024],
 ) -> Answer
-    requires { ⌜ Sound (now nodes) × (128 ≤ length (now area)) × (length (now ends) ≡ length (now nodes)) × (length (now nests) ≡ length (now nodes)) × (length (now pauses) ≡ length (now nodes)) ⌝ }
+    requires { ⌜ Sound (now nodes) count × (128 ≤ length (now area)) ⌝ }
     ensures { λ r. ⌜ Finds (reactionsOf (statementAt 60 (now (nodes .entry)) 0 .statement) (stateOf mark labels) assumed) r (now (area .entry)) (now (area .exit)) ⌝ }
 {
-    marking::mark(nodes, ends, nests, pauses);
-    if 12 < marking::nest_at(nests, 0) {
+    marking::mark_front(nodes, count, ends, nests, pauses);
+    if 12 < nests[0] {
         return Answer::Refused(14);
     }
     let n = reactions_in(nodes, ends, pauses, assumed as u64, mark, labels, area);
-    if 64 < n {
+    if n > 64 {
         return Answer::Refused(15);
     }
     Answer::Listed(n as u32)
 }
 
-// The same with more room than there are nodes.
-fn find_within(
-    nodes: &[u16],
+// The reactions of decoded nodes.
+pub fn find_nodes(
+    nodes: &[u16; 1024],
+    count: usize,
     assumed: u32,
     mark: u32,
     labels: u64,
     area: &mut [u64],
-    ends: &mut [u16],
-    nests: &mut [u8],
-    pauses: &mut [u64],
 ) -> Answer
-    requires { ⌜ Sound (now nodes) × (128 ≤ length (now area)) × (length (now nodes) ≤ length (now ends)) × (length (now nodes) ≤ length (now nests)) × (length (now nodes) ≤ length (now pauses)) ⌝ }
-    ensures { λ r. ⌜ Finds (reactionsOf (statementAt 60 (now (nodes .entry)) 0 .statement) (stateOf mark labels) assumed) r (now (area .entry)) (now (area .exit)) ⌝ }
-{
-    let n = nodes.len();
-    find_marked(
-        nodes,
-        assumed,
-        mark,
-        labels,
-        area,
-        &mut ends[..n],
-        &mut nests[..n],
-        &mut pauses[..n],
-    )
-}
-
-fn find_few(nodes: &[u16], assumed: u32, mark: u32, labels: u64, area: &mut [u64]) -> Answer
-    requires { ⌜ Sound (now nodes) × (128 ≤ length (now area)) × (length (now nodes) ≤ 64) ⌝ }
-    ensures { λ r. ⌜ Finds (reactionsOf (statementAt 60 (now (nodes .entry)) 0 .statement) (stateOf mark labels) assumed) r (now (area .entry)) (now (area .exit)) ⌝ }
-{
-    let mut ends = [0u16; 64];
-    let mut nests = [0u8; 64];
-    let mut pauses = [0u64; 64];
-    find_within(
-        nodes,
-        assumed,
-        mark,
-        labels,
-        area,
-        &mut ends,
-        &mut nests,
-        &mut pauses,
-    )
-}
-
-fn find_many(nodes: &[u16], assumed: u32, mark: u32, labels: u64, area: &mut [u64]) -> Answer
-    requires { ⌜ Sound (now nodes) × (128 ≤ length (now area)) ⌝ }
+    requires { ⌜ Sound (now nodes) count × (128 ≤ length (now area)) ⌝ }
     ensures { λ r. ⌜ Finds (reactionsOf (statementAt 60 (now (nodes .entry)) 0 .statement) (stateOf mark labels) assumed) r (now (area .entry)) (now (area .exit)) ⌝ }
 {
     let mut ends = [0u16; 1024];
     let mut nests = [0u8; 1024];
     let mut pauses = [0u64; 1024];
-    find_within(
+    find_marked(
         nodes,
+        count,
         assumed,
         mark,
         labels,
@@ -194,17 +158,6 @@ fn find_many(nodes: &[u16], assumed: u32, mark: u32, labels: u64, area: &mut [u6
         &mut nests,
         &mut pauses,
     )
-}
-
-// The reactions of decoded nodes. Few nodes are given little room, since making it ready costs more than their list.
-pub fn find_nodes(nodes: &[u16], assumed: u32, mark: u32, labels: u64, area: &mut [u64]) -> Answer
-    requires { ⌜ Sound (now nodes) × (128 ≤ length (now area)) ⌝ }
-    ensures { λ r. ⌜ Finds (reactionsOf (statementAt 60 (now (nodes .entry)) 0 .statement) (stateOf mark labels) assumed) r (now (area .entry)) (now (area .exit)) ⌝ }
-{
-    if nodes.len() <= 64 {
-        return find_few(nodes, assumed, mark, labels, area);
-    }
-    find_many(nodes, assumed, mark, labels, area)
 }
 
 // The reactions of a table, with room lent for its nodes.
@@ -223,9 +176,7 @@ fn find_loaded(
     let Checked::Accepted(n) = checked else {
         return Answer::Refused(table::refusal(checked));
     };
-    let count = n as usize;
-    let loaded = &nodes[..];
-    find_nodes(&loaded[..count], assumed, mark, labels, area)
+    find_nodes(nodes, n as usize, assumed, mark, labels, area)
 }
 
 // The reactions of a table, left in front of an area.

@@ -9,7 +9,7 @@ ghost use Rattle.sets.specs.Set.{_union_};
 ghost use Rattle.list.specs.Notes.{endIn, Room, Wrote, Noted};
 
 // Where the statement at a place ends.
-pub fn end_at(ends: &[u16], at: usize) -> usize
+fn end_at(ends: &[u16], at: usize) -> usize
     ensures { λ r. ⌜ (r ≡ endIn (now (ends .entry)) at) × (at < 65536 → r < 65536) ⌝ }
 {
     if at < ends.len() {
@@ -20,14 +20,14 @@ pub fn end_at(ends: &[u16], at: usize) -> usize
 }
 
 // The nesting of the statement at a place.
-pub fn nest_at(nests: &[u8], at: usize) -> u8
+fn nest_at(nests: &[u8], at: usize) -> u8
     ensures { λ r. ⌜ r ≡ getD (now (nests .entry)) at 0 ⌝ }
 {
     if at < nests.len() { nests[at] } else { 0 }
 }
 
 // The labels of the pauses of the statement at a place.
-pub fn pauses_at(pauses: &[u64], at: usize) -> u64
+fn pauses_at(pauses: &[u64], at: usize) -> u64
     ensures { λ r. ⌜ r ≡ getD (now (pauses .entry)) at 0 ⌝ }
 {
     if at < pauses.len() { pauses[at] } else { 0 }
@@ -109,15 +109,16 @@ fn note_two(ends: &mut [u16], nests: &mut [u8], pauses: &mut [u64], at: usize)
 }
 
 // The notes of the statement at a place, from those of its children.
-fn mark_at(nodes: &[u16], ends: &mut [u16], nests: &mut [u8], pauses: &mut [u64], at: usize)
-    requires { ⌜ (at < length (now nodes)) × (length (now nodes) ≤ 1024) × Noted (at + 1) (now nodes) (now ends) (now nests) (now pauses) ⌝ }
-    ensures { λ _. ⌜ Noted at (now (nodes .entry)) (now (ends .exit)) (now (nests .exit)) (now (pauses .exit)) ⌝ }
+fn mark_at(nodes: &[u16; 1024], ends: &mut [u16], nests: &mut [u8], pauses: &mut [u64], at: usize)
+    requires { ⌜ (at < length (now ends)) × (length (now ends) ≤ 1024) × Noted (at + 1) (length (now ends)) (now nodes) (now ends) (now nests) (now pauses) ⌝ }
+    ensures { λ _. ⌜ Noted at (length (now (ends .entry))) (now (nodes .entry)) (now (ends .exit)) (now (nests .exit)) (now (pauses .exit)) ⌝ }
 {
     let node = nodes[at];
     let kind = kind_of(node);
+    let own = sets::singleton(operand_of(node));
     match kind {
         0 => note_none(ends, nests, pauses, at, 0),
-        1 => note_none(ends, nests, pauses, at, sets::singleton(operand_of(node))),
+        1 => note_none(ends, nests, pauses, at, own),
         2 => note_none(ends, nests, pauses, at, 0),
         3 => note_none(ends, nests, pauses, at, 0),
         4 => note_none(ends, nests, pauses, at, 0),
@@ -132,14 +133,33 @@ fn mark_at(nodes: &[u16], ends: &mut [u16], nests: &mut [u8], pauses: &mut [u64]
     }
 }
 
-// The notes of all statements of the nodes.
-pub fn mark(nodes: &[u16], ends: &mut [u16], nests: &mut [u8], pauses: &mut [u64])
-    requires { ⌜ (length (now nodes) ≤ 1024) × (length (now ends) ≡ length (now nodes)) × (length (now nests) ≡ length (now nodes)) × (length (now pauses) ≡ length (now nodes)) ⌝ }
-    ensures { λ _. ⌜ Noted 0 (now (nodes .entry)) (now (ends .exit)) (now (nests .exit)) (now (pauses .exit)) ⌝ }
+// The notes of the statements of the first nodes, as many as there is room for.
+pub fn mark(nodes: &[u16; 1024], ends: &mut [u16], nests: &mut [u8], pauses: &mut [u64])
+    requires { ⌜ (length (now ends) ≤ 1024) × (length (now nests) ≡ length (now ends)) × (length (now pauses) ≡ length (now ends)) ⌝ }
+    ensures { λ _. ⌜ Noted 0 (length (now (ends .entry))) (now (nodes .entry)) (now (ends .exit)) (now (nests .exit)) (now (pauses .exit)) ⌝ }
 {
-    let mut at = nodes.len();
+    let mut at = ends.len();
     while 0 < at {
         at -= 1;
         mark_at(nodes, ends, nests, pauses, at);
     }
+}
+
+// The same in front of more room.
+pub fn mark_front(
+    nodes: &[u16; 1024],
+    count: usize,
+    ends: &mut [u16],
+    nests: &mut [u8],
+    pauses: &mut [u64],
+)
+    requires { ⌜ (count ≤ 1024) × (count ≤ length (now ends)) × (count ≤ length (now nests)) × (count ≤ length (now pauses)) ⌝ }
+    ensures { λ _. ⌜ Noted 0 count (now (nodes .entry)) (now (ends .exit)) (now (nests .exit)) (now (pauses .exit)) ⌝ }
+{
+    mark(
+        nodes,
+        &mut ends[..count],
+        &mut nests[..count],
+        &mut pauses[..count],
+    );
 }

@@ -1,5 +1,5 @@
 -- By the answer of check; on an accepted table the nodes in front hold its statement.
-use Rattle.list.proofs.Limits.{finds-refused, part-length, part-sound, finds-accepted}
+use Rattle.list.proofs.Limits.{finds-refused, loaded-sound, finds-accepted}
 use borrow.Author.Needs.{needs}
 use Rattle.list.proofs.finding.find_loaded.Statement.{statement}
 use Rattle.list.proofs.finding.find_loaded.Tie as tie
@@ -17,22 +17,25 @@ refusal-requires : tie.Need-refusal-requires
 refusal-requires c κs = search needs
 
 returns : tie.Need-returns
-returns c = finds-refused (c .before .before .before .before .before .before .before .args .table .now) (c .before .before .before .before .before .before .before .args .nodes .now) _ (c .before .before .before .load .result) (c .before .before .before .load .ensures) (c .before .before .before .before .before .before .before .args .assumed) (c .before .before .before .before .before .before .before .args .mark) (c .before .before .before .before .before .before .before .args .labels) _ _ (c .before .before .before .before .before .before .before .args .area .now) (c .before .enum-told .given .1) (c .refusal .ensures)
+returns c =
+    let s = c .before .before .before .before .before .before .before in
+    finds-refused (s .args .table .now) (s .args .nodes .now) _ (c .before .before .before .load .result) (c .before .before .before .load .ensures) (s .args .assumed) (s .args .mark) (s .args .labels) _ _ (s .args .area .now) (c .before .enum-told .given .1) (c .refusal .ensures)
 
-cast-count : tie.Need-cast-count
-cast-count c = search needs
-
-slice-aggregate-find-nodes : tie.Need-slice-aggregate-find-nodes
-slice-aggregate-find-nodes c = part-length (c .before .before .before .before .before .before .before .before .before .before .args .table .now) (c .before .before .before .before .before .before .before .before .before .before .args .nodes .now) _ (c .before .before .before .before .before .before .load .result) (c .before .before .before .before .before .before .load .ensures) (c .before .before .before .before .checked .given .0 .0) (c .before .before .before .before .checked .given .1)
+cast-find-nodes : tie.Need-cast-find-nodes
+cast-find-nodes c = search needs
 
 find-nodes-requires : tie.Need-find-nodes-requires
-find-nodes-requires c κs = (part-sound (c .before .before .before .before .before .before .before .before .before .before .before .args .table .now) (c .before .before .before .before .before .before .before .before .before .before .before .args .nodes .now) _ (c .before .before .before .before .before .before .before .load .result) (c .before .before .before .before .before .before .before .load .ensures) (c .before .before .before .before .before .checked .given .0 .0) (c .before .before .before .before .before .checked .given .1), c .before .before .before .before .before .before .before .before .before .before .before .pre)
+find-nodes-requires c κs =
+    let s = c .before .before .before .before .before .before .before .before .before in
+    (loaded-sound (s .args .table .now) (s .args .nodes .now) _ (c .before .before .before .before .before .load .result) (c .before .before .before .before .before .load .ensures) (c .before .before .before .checked .given .0 .0) (c .before .before .before .checked .given .1), s .pre)
 
 same-length : tie.Need-same-length
 same-length c = search needs
 
 returns-2 : tie.Need-returns-2
-returns-2 c = finds-accepted (c .before .before .before .before .before .before .before .before .before .before .before .before .before .before .args .table .now) (c .before .before .before .before .before .before .before .before .before .before .before .before .before .before .args .nodes .now) _ (c .before .before .before .before .before .before .before .before .before .before .load .result) (c .before .before .before .before .before .before .before .before .before .before .load .ensures) (c .before .before .before .before .before .before .before .before .checked .given .0 .0) (c .before .before .before .before .before .before .before .before .checked .given .1) (c .before .before .before .before .before .before .before .before .before .before .before .before .before .before .args .assumed) (c .before .before .before .before .before .before .before .before .before .before .before .before .before .before .args .mark) (c .before .before .before .before .before .before .before .before .before .before .before .before .before .before .args .labels) (c .before .before .find-nodes .ensures)
+returns-2 c =
+    let s = c .before .before .before .before .before .before .before .before .before .before .before .before in
+    finds-accepted (s .args .table .now) (s .args .nodes .now) _ (c .before .before .before .before .before .before .before .before .load .result) (c .before .before .before .before .before .before .before .before .load .ensures) (c .before .before .before .before .before .before .checked .given .0 .0) (c .before .before .before .before .before .before .checked .given .1) (s .args .assumed) (s .args .mark) (s .args .labels) (c .before .before .find-nodes .ensures)
 
 pub find-loaded-spec : {M : Type 1} → statement M
 find-loaded-spec =
@@ -43,8 +46,7 @@ find-loaded-spec =
     enum-told
     refusal-requires
     returns
-    cast-count
-    slice-aggregate-find-nodes
+    cast-find-nodes
     find-nodes-requires
     same-length
     returns-2)

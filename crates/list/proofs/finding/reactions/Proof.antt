@@ -1,4 +1,6 @@
--- By the mark.
+-- By the mark; no statement is deeper than 60.
+use native.Mathlib.Omega.{arith}
+use Rattle.area.proofs.Made.{made-need}
 use Rattle.list.proofs.Findings.{in-start, in-resumed}
 use borrow.Author.Needs.{needs}
 use Rattle.list.proofs.finding.reactions.Statement.{statement}
@@ -11,7 +13,9 @@ same-length : tie.Need-same-length
 same-length c = search needs
 
 returns : tie.Need-returns
-returns c = in-start _ (c .before .before .before .before .before .before .before .before .before .args .assumed) (c .before .before .before .before .before .before .before .before .before .args .mark) (c .before .before .before .before .before .before .before .before .before .args .labels) (c .before .before .before .before .if1 .taken) (c .before .before .start .ensures)
+returns c =
+    let s = c .before .before .before .before .before .before in
+    in-start _ (s .args .assumed) (s .args .mark) (s .args .labels) (c .before .before .before .before .if1 .taken) (made-need 7940 (c .before .before .start .ensures) (omega (arith, s .pre .ready .whole .shallow)))
 
 resume-requires : tie.Need-resume-requires
 resume-requires c κs = search needs
@@ -20,7 +24,9 @@ same-length-2 : tie.Need-same-length-2
 same-length-2 c = search needs
 
 returns-2 : tie.Need-returns-2
-returns-2 c = in-resumed _ (c .before .before .before .before .before .before .before .before .before .args .assumed) (c .before .before .before .before .before .before .before .before .before .args .mark) (c .before .before .before .before .before .before .before .before .before .args .labels) (c .before .before .before .before .if1 .left) (c .before .before .resume .ensures)
+returns-2 c =
+    let s = c .before .before .before .before .before .before in
+    in-resumed _ (s .args .assumed) (s .args .mark) (s .args .labels) (c .before .before .before .before .if1 .left) (made-need 7940 (c .before .before .resume .ensures) (omega (arith, s .pre .ready .whole .shallow)))
 
 pub reactions-spec : {M : Type 1} → statement M
 reactions-spec =

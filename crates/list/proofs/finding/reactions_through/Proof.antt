@@ -17,7 +17,9 @@ same-length-2 : tie.Need-same-length-2
 same-length-2 c = search needs
 
 returns : tie.Need-returns
-returns c = made-copied (c .before .before .before .before .before .before .before .reactions .ensures) (c .before .before .before .before .before .before .before .before .before .before .before .before .before .before .pre .1) (c .before .before .before .before .before .before .before .before .before .before .before .before .before .before .pre .0) (c .before .before .copy .ensures)
+returns c =
+    let s = c .before .before .before .before .before .before .before .before .before .before .before in
+    made-copied (c .before .before .before .before .before .before .before .reactions .ensures) (s .pre .1) (s .pre .0) (c .before .before .copy .ensures)
 
 pub reactions-through-spec : {M : Type 1} → statement M
 reactions-through-spec =

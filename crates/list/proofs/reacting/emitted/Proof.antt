@@ -1,10 +1,9 @@
 -- By the test; the word of the signal has room for a code.
-use mathlib.Core.Path.{_≡_, sym, ap, _∙_}
-use Prim.Native.Nat.{ℕ}
+use native.Mathlib.Omega.{arith}
+use mathlib.Core.Path.{sym, _∙_}
 use borrow.Author.Tests.{not-true, not-false}
 use Rattle.area.proofs.Sets.{only-below, only-word}
 use Rattle.list.proofs.Starts.{emit-none, emit-one}
-use native.Mathlib.Omega.{arith}
 use borrow.Author.Needs.{needs}
 use Rattle.list.proofs.reacting.emitted.Statement.{statement}
 use Rattle.list.proofs.reacting.emitted.Tie as tie
@@ -13,22 +12,22 @@ contains-requires : tie.Need-contains-requires
 contains-requires c κs = search needs
 
 returns : tie.Need-returns
-returns c = emit-none (c .before .before .before .args .area .now) (c .before .before .before .args .base) (c .before .before .before .args .assumed) (c .before .before .before .args .signal) (omega arith) (sym (c .before .contains .ensures) ∙ not-true _ (c .if1 .taken))
+returns c = emit-none (c .before .before .before .args .area .now) (c .before .before .before .args .base) (c .before .before .before .args .assumed) (c .before .before .before .args .signal) (c .before .before .before .pre .0) (sym (c .before .contains .ensures) ∙ not-true _ (c .if1 .taken))
 
 singleton-requires : tie.Need-singleton-requires
 singleton-requires c κs = search needs
 
-mul-one : tie.Need-mul-one
-mul-one c = omega (arith, c .singleton .ensures, only-word 64 (c .before .before .before .before .before .args .signal) (omega (arith, c .before .before .before .before .before .pre .1)), only-below 32 (c .before .before .before .before .before .args .signal) (c .before .before .before .before .before .pre .1))
+mul-alone : tie.Need-mul-alone
+mul-alone c = omega (arith, c .singleton .ensures, only-word 64 (c .before .before .before .before .before .args .signal) (omega (arith, c .before .before .before .before .before .pre .1)), only-below 32 (c .before .before .before .before .before .args .signal) (c .before .before .before .before .before .pre .1))
 
-one-requires : tie.Need-one-requires
-one-requires c κs = search needs
+alone-requires : tie.Need-alone-requires
+alone-requires c κs = search needs
 
 same-length : tie.Need-same-length
 same-length c = search needs
 
 returns-2 : tie.Need-returns-2
-returns-2 c = emit-one (c .before .before .before .before .before .before .before .before .args .assumed) (c .before .before .before .before .before .before .before .before .args .signal) _ (omega (arith, c .before .before .before .before .before .before .before .before .pre .1)) (c .before .before .before .singleton .ensures) (sym (c .before .before .before .before .before .before .contains .ensures) ∙ not-false _ (c .before .before .before .before .before .if1 .left)) (c .before .before .one .ensures)
+returns-2 c = emit-one (c .before .before .before .before .before .before .before .before .args .assumed) (c .before .before .before .before .before .before .before .before .args .signal) _ (omega (arith, c .before .before .before .before .before .before .before .before .pre .1)) (c .before .before .before .singleton .ensures) (sym (c .before .before .before .before .before .before .contains .ensures) ∙ not-false _ (c .before .before .before .before .before .if1 .left)) (c .before .before .alone .ensures)
 
 pub emitted-spec : {M : Type 1} → statement M
 emitted-spec =
@@ -37,7 +36,7 @@ emitted-spec =
     contains-requires
     returns
     singleton-requires
-    mul-one
-    one-requires
+    mul-alone
+    alone-requires
     same-length
     returns-2)
