@@ -63,8 +63,8 @@ fn emitted(area: &mut [u64], base: usize, assumed: u64, signal: u8) -> usize
     alone(area, base, sets::singleton(signal) * 256, 0)
 }
 
-// Where the next list stands: above the n reactions at base; at the end of the area, where nothing can be written, if n says
-// that there is no list, or if there is no room above it.
+// Where the next list stands: above the n reactions at base; at the end of the area, where no list is begun, if n says that
+// there is no list, or if there is no room above it.
 fn above(area: &[u64], base: usize, n: usize) -> usize
     requires { ⌜ (base ≤ length (now area)) × (n ≤ 64 → base + 2 * n ≤ length (now area)) ⌝ }
     ensures { λ r. ⌜ Above (now (area .entry)) base n r ⌝ }
@@ -120,6 +120,9 @@ pub fn start(
     requires { ⌜ (base ≤ length (now area)) × Ready (now nodes) (now ends) at ⌝ }
     ensures { λ r. ⌜ Made (now (area .entry)) (now (area .exit)) base (base + roomFor (partAt (now (nodes .entry)) at)) (capped (partAt (now (nodes .entry)) at) started assumed) r ⌝ }
 {
+    if base == area.len() {
+        return 66;
+    }
     let node = nodes[at];
     let operand = operand_of(node);
     let first = at + 1;
@@ -229,6 +232,9 @@ pub fn resume(
     requires { ⌜ (base ≤ length (now area)) × Resumable (now nodes) (now ends) (now pauses) at ⌝ }
     ensures { λ r. ⌜ Made (now (area .entry)) (now (area .exit)) base (base + roomFor (partAt (now (nodes .entry)) at)) (capped (partAt (now (nodes .entry)) at) (resumed labels) assumed) r ⌝ }
 {
+    if base == area.len() {
+        return 66;
+    }
     if labels & pauses[at] == 0 {
         return 0;
     }

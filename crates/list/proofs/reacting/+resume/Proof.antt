@@ -9,7 +9,7 @@ use Rattle.esterel.specs.Reactions.{resumed}
 use Rattle.area.specs.declared.Change.the-variants.{Hide, Caught}
 use Rattle.area.specs.declared.Pairing.the-variants.{Parallel}
 use Rattle.area.specs.Rules.{product}
-use Rattle.area.proofs.Made.{made-need}
+use Rattle.area.proofs.Made.{made-need, made-cramped}
 use Rattle.list.specs.Notes.{partAt}
 use Rattle.list.specs.Joins.{roomFor}
 use Rattle.list.proofs.Nodes.{no-kind}
@@ -49,41 +49,46 @@ abbrev claims : ℕ → resume-lts.Claims
 claims t = (operand-of-reads.Asked, operand-of-reads.Learnt, kind-of-reads.Asked, kind-of-reads.Learnt, alone-reads.Asked, alone-reads.Learnt, with-number-reads.Asked, with-number-reads.Learnt, resume-below t, resume.Post, alter-reads.Asked, alter-reads.Learnt, above-reads.Asked, above-reads.Learnt, without-reads.Asked, without-reads.Learnt, either-reads.Asked, either-reads.Learnt, follow-reads.Asked, follow-reads.Learnt, together-reads.Asked, together-reads.Learnt, follow-again-reads.Asked, follow-again-reads.Learnt)
 
 module _ (t : ℕ) where
-  mul-if1 : resume-lts.Need-mul-if1 (claims t) (resume-at t) resume.Post
-  mul-if1 c = omega (arith, place-few (c .before .pre .1 .1 .ready))
-
-  element-copy-out-if1 : resume-lts.Need-element-copy-out-if1 (claims t) (resume-at t) resume.Post
-  element-copy-out-if1 c = place-few (c .before .pre .1 .1 .ready)
-
   returns : resume-lts.Need-returns (claims t) (resume-at t) resume.Post
   returns c =
-      let s = c .before .before .before in
-      resumed-quiet (s .args .area .now) (s .args .base) _ _ (s .args .labels) (s .args .assumed) (s .pre .1 .0) (meets-not (s .pre .1 .1) (s .args .labels) (getD (s .args .pauses .now) (s .args .at) 0) refl (c .if1 .taken))
+      let s = c .before .before in
+      made-cramped (s .args .area .now) (s .args .base) (s .args .base + roomFor (partAt (s .args .nodes .now) (s .args .at))) 66 _ (omega arith) (let e = c .if1 .taken in omega arith)
+
+  mul-if2 : resume-lts.Need-mul-if2 (claims t) (resume-at t) resume.Post
+  mul-if2 c = omega (arith, place-few (c .before .before .pre .1 .1 .ready))
+
+  element-copy-out-if2 : resume-lts.Need-element-copy-out-if2 (claims t) (resume-at t) resume.Post
+  element-copy-out-if2 c = place-few (c .before .before .pre .1 .1 .ready)
+
+  returns-2 : resume-lts.Need-returns-2 (claims t) (resume-at t) resume.Post
+  returns-2 c =
+      let s = c .before .before .before .before in
+      resumed-quiet (s .args .area .now) (s .args .base) _ _ (s .args .labels) (s .args .assumed) (s .pre .1 .0) (meets-not (s .pre .1 .1) (s .args .labels) (getD (s .args .pauses .now) (s .args .at) 0) refl (c .if2 .taken))
 
   mul-node : resume-lts.Need-mul-node (claims t) (resume-at t) resume.Post
-  mul-node c = omega (arith, place-few (c .before .before .before .pre .1 .1 .ready))
+  mul-node c = omega (arith, place-few (c .before .before .before .before .pre .1 .1 .ready))
 
   element-copy-out-node : resume-lts.Need-element-copy-out-node (claims t) (resume-at t) resume.Post
-  element-copy-out-node c = place-few (c .before .before .before .pre .1 .1 .ready)
+  element-copy-out-node c = place-few (c .before .before .before .before .pre .1 .1 .ready)
 
   operand-of-requires : resume-lts.Need-operand-of-requires (claims t) (resume-at t) resume.Post
   operand-of-requires c κs = tt
 
   add-first : resume-lts.Need-add-first (claims t) (resume-at t) resume.Post
-  add-first c = omega (arith, place-few (c .before .before .before .before .before .pre .1 .1 .ready))
+  add-first c = omega (arith, place-few (c .before .before .before .before .before .before .pre .1 .1 .ready))
 
   kind-of-requires : resume-lts.Need-kind-of-requires (claims t) (resume-at t) resume.Post
   kind-of-requires c κs = tt
 
   alone-requires : resume-lts.Need-alone-requires (claims t) (resume-at t) resume.Post
-  alone-requires c κs = (c .before .before .before .before .before .before .before .before .pre .1 .0)
+  alone-requires c κs = (c .before .before .before .before .before .before .before .before .before .pre .1 .0)
 
   with-number-requires : resume-lts.Need-with-number-requires (claims t) (resume-at t) resume.Post
   with-number-requires c κs = let e = c .before .before .operand-of .ensures in omega arith
 
   resume-requires : resume-lts.Need-resume-requires (claims t) (resume-at t) resume.Post
   resume-requires c κs =
-      let s = c .before .before .before .before .before .before .before .before .before in
+      let s = c .before .before .before .before .before .before .before .before .before .before in
       let r = s .pre .1 .1 in
       let k = child-signal (r .ready) (sym (c .before .before .before .kind-of .ensures) ∙ c .before .before .match .keys6) in
       (omega (arith, s .pre .0, k .less), ((s .pre .1 .0), resumable-at r k))
@@ -93,7 +98,7 @@ module _ (t : ℕ) where
 
   above-requires : resume-lts.Need-above-requires (claims t) (resume-at t) resume.Post
   above-requires c κs =
-      let s = c .before .before .before .before .before .before .before .before .before .before .before .before .before .before .before .before .before in
+      let s = c .before .before .before .before .before .before .before .before .before .before .before .before .before .before .before .before .before .before in
       let k = child-signal (s .pre .1 .1 .ready) (sym (c .before .before .before .before .before .before .before .before .before .before .before .kind-of .ensures) ∙ c .before .before .before .before .before .before .before .before .before .before .match .keys6) in
       let m = altered (Hide (c .before .before .before .before .before .before .before .before .before .before .before .before .operand-of .result)) (made-need (s .args .base + roomFor (partAt (s .args .nodes .now) (s .args .at))) (c .before .before .before .before .before .before .before .resume .ensures) (omega (arith, k .less))) (c .before .before .before .alter .ensures) in
       (omega (arith, (s .pre .1 .0), m .same), λ h. omega (arith, m .fits h, m .same))
@@ -103,7 +108,7 @@ module _ (t : ℕ) where
 
   resume-requires-2 : resume-lts.Need-resume-requires-2 (claims t) (resume-at t) resume.Post
   resume-requires-2 c κs =
-      let s = c .before .before .before .before .before .before .before .before .before .before .before .before .before .before .before .before .before .before .before .before in
+      let s = c .before .before .before .before .before .before .before .before .before .before .before .before .before .before .before .before .before .before .before .before .before in
       let r = s .pre .1 .1 in
       let k = child-signal (r .ready) (sym (c .before .before .before .before .before .before .before .before .before .before .before .before .before .before .kind-of .ensures) ∙ c .before .before .before .before .before .before .before .before .before .before .before .before .before .match .keys6) in
       let m = altered (Hide (c .before .before .before .before .before .before .before .before .before .before .before .before .before .before .before .operand-of .result)) (made-need (s .args .base + roomFor (partAt (s .args .nodes .now) (s .args .at))) (c .before .before .before .before .before .before .before .before .before .before .resume .ensures) (omega (arith, k .less))) (c .before .before .before .before .before .before .alter .ensures) in
@@ -111,46 +116,46 @@ module _ (t : ℕ) where
 
   either-requires : resume-lts.Need-either-requires (claims t) (resume-at t) resume.Post
   either-requires c κs =
-      let s = c .before .before .before .before .before .before .before .before .before .before .before .before .before .before .before .before .before .before .before .before .before .before .before .before in
+      let s = c .before .before .before .before .before .before .before .before .before .before .before .before .before .before .before .before .before .before .before .before .before .before .before .before .before in
       let k = child-signal (s .pre .1 .1 .ready) (sym (c .before .before .before .before .before .before .before .before .before .before .before .before .before .before .before .before .before .before .kind-of .ensures) ∙ c .before .before .before .before .before .before .before .before .before .before .before .before .before .before .before .before .before .match .keys6) in
       let m = altered (Hide (c .before .before .before .before .before .before .before .before .before .before .before .before .before .before .before .before .before .before .before .operand-of .result)) (made-need (s .args .base + roomFor (partAt (s .args .nodes .now) (s .args .at))) (c .before .before .before .before .before .before .before .before .before .before .before .before .before .before .resume .ensures) (omega (arith, k .less))) (c .before .before .before .before .before .before .before .before .before .before .alter .ensures) in
       beside-top m (c .before .before .before .before .before .before .above .ensures) (omega (arith, k .less)) (c .before .before .before .resume2 .ensures) (λ h e. omega (arith, k .less))
 
   mul-second : resume-lts.Need-mul-second (claims t) (resume-at t) resume.Post
   mul-second c =
-      let s = c .before .before .before .before .before .before .before in
+      let s = c .before .before .before .before .before .before .before .before in
       let r = s .pre .1 .1 in
       omega (arith, place-few (ready-at (r .ready) (child-present (r .ready) (sym (c .before .kind-of .ensures) ∙ c .match .keys7))))
 
   element-copy-out-second : resume-lts.Need-element-copy-out-second (claims t) (resume-at t) resume.Post
   element-copy-out-second c =
-      let s = c .before .before .before .before .before .before .before in
+      let s = c .before .before .before .before .before .before .before .before in
       let r = s .pre .1 .1 in
       place-few (ready-at (r .ready) (child-present (r .ready) (sym (c .before .kind-of .ensures) ∙ c .match .keys7)))
 
   cast-second : resume-lts.Need-cast-second (claims t) (resume-at t) resume.Post
   cast-second c =
-      let s = c .before .before .before .before .before .before .before .before in
+      let s = c .before .before .before .before .before .before .before .before .before in
       let r = s .pre .1 .1 in
       omega (arith, place-few (ready-at (r .ready) (child-else (r .ready) (getD (s .args .ends .now) (s .args .at + 1) 0) refl (sym (c .before .before .kind-of .ensures) ∙ c .before .match .keys7))))
 
   resume-requires-3 : resume-lts.Need-resume-requires-3 (claims t) (resume-at t) resume.Post
   resume-requires-3 c κs =
-      let s = c .before .before .before .before .before .before .before .before .before in
+      let s = c .before .before .before .before .before .before .before .before .before .before in
       let r = s .pre .1 .1 in
       let k = child-present (r .ready) (sym (c .before .before .before .kind-of .ensures) ∙ c .before .before .match .keys7) in
       (omega (arith, s .pre .0, k .less), ((s .pre .1 .0), resumable-at r k))
 
   above-requires-2 : resume-lts.Need-above-requires-2 (claims t) (resume-at t) resume.Post
   above-requires-2 c κs =
-      let s = c .before .before .before .before .before .before .before .before .before .before .before .before .before in
+      let s = c .before .before .before .before .before .before .before .before .before .before .before .before .before .before in
       let k = child-present (s .pre .1 .1 .ready) (sym (c .before .before .before .before .before .before .before .kind-of .ensures) ∙ c .before .before .before .before .before .before .match .keys7) in
       let m = (made-need (s .args .base + roomFor (partAt (s .args .nodes .now) (s .args .at))) (c .before .before .before .resume3 .ensures) (omega (arith, k .less))) in
       (omega (arith, (s .pre .1 .0), m .same), λ h. omega (arith, m .fits h, m .same))
 
   resume-requires-4 : resume-lts.Need-resume-requires-4 (claims t) (resume-at t) resume.Post
   resume-requires-4 c κs =
-      let s = c .before .before .before .before .before .before .before .before .before .before .before .before .before .before .before in
+      let s = c .before .before .before .before .before .before .before .before .before .before .before .before .before .before .before .before in
       let r = s .pre .1 .1 in
       let key = sym (c .before .before .before .before .before .before .before .before .before .kind-of .ensures) ∙ c .before .before .before .before .before .before .before .before .match .keys7 in
       let k = child-present (r .ready) key in
@@ -160,7 +165,7 @@ module _ (t : ℕ) where
 
   either-requires-2 : resume-lts.Need-either-requires-2 (claims t) (resume-at t) resume.Post
   either-requires-2 c κs =
-      let s = c .before .before .before .before .before .before .before .before .before .before .before .before .before .before .before .before .before .before .before in
+      let s = c .before .before .before .before .before .before .before .before .before .before .before .before .before .before .before .before .before .before .before .before in
       let r = s .pre .1 .1 in
       let key = sym (c .before .before .before .before .before .before .before .before .before .before .before .before .before .kind-of .ensures) ∙ c .before .before .before .before .before .before .before .before .before .before .before .before .match .keys7 in
       let k = child-present (r .ready) key in
@@ -170,32 +175,32 @@ module _ (t : ℕ) where
 
   mul-second-2 : resume-lts.Need-mul-second-2 (claims t) (resume-at t) resume.Post
   mul-second-2 c =
-      let s = c .before .before .before .before .before .before .before in
+      let s = c .before .before .before .before .before .before .before .before in
       let r = s .pre .1 .1 in
       omega (arith, place-few (ready-at (r .ready) (child-sequence (r .ready) (sym (c .before .kind-of .ensures) ∙ c .match .keys8))))
 
   element-copy-out-second-2 : resume-lts.Need-element-copy-out-second-2 (claims t) (resume-at t) resume.Post
   element-copy-out-second-2 c =
-      let s = c .before .before .before .before .before .before .before in
+      let s = c .before .before .before .before .before .before .before .before in
       let r = s .pre .1 .1 in
       place-few (ready-at (r .ready) (child-sequence (r .ready) (sym (c .before .kind-of .ensures) ∙ c .match .keys8)))
 
   cast-second-2 : resume-lts.Need-cast-second-2 (claims t) (resume-at t) resume.Post
   cast-second-2 c =
-      let s = c .before .before .before .before .before .before .before .before in
+      let s = c .before .before .before .before .before .before .before .before .before in
       let r = s .pre .1 .1 in
       omega (arith, place-few (ready-at (r .ready) (child-then (r .ready) (getD (s .args .ends .now) (s .args .at + 1) 0) refl (sym (c .before .before .kind-of .ensures) ∙ c .before .match .keys8))))
 
   resume-requires-5 : resume-lts.Need-resume-requires-5 (claims t) (resume-at t) resume.Post
   resume-requires-5 c κs =
-      let s = c .before .before .before .before .before .before .before .before .before in
+      let s = c .before .before .before .before .before .before .before .before .before .before in
       let r = s .pre .1 .1 in
       let k = child-sequence (r .ready) (sym (c .before .before .before .kind-of .ensures) ∙ c .before .before .match .keys8) in
       (omega (arith, s .pre .0, k .less), ((s .pre .1 .0), resumable-at r k))
 
   follow-requires : resume-lts.Need-follow-requires (claims t) (resume-at t) resume.Post
   follow-requires c κs =
-      let s = c .before .before .before .before .before .before .before .before .before .before .before .before .before in
+      let s = c .before .before .before .before .before .before .before .before .before .before .before .before .before .before in
       let r = s .pre .1 .1 in
       let key = sym (c .before .before .before .before .before .before .before .kind-of .ensures) ∙ c .before .before .before .before .before .before .match .keys8 in
       let k = child-sequence (r .ready) key in
@@ -205,7 +210,7 @@ module _ (t : ℕ) where
 
   above-requires-3 : resume-lts.Need-above-requires-3 (claims t) (resume-at t) resume.Post
   above-requires-3 c κs =
-      let s = c .before .before .before .before .before .before .before .before .before .before .before .before .before .before .before .before .before in
+      let s = c .before .before .before .before .before .before .before .before .before .before .before .before .before .before .before .before .before .before in
       let r = s .pre .1 .1 in
       let key = sym (c .before .before .before .before .before .before .before .before .before .before .before .kind-of .ensures) ∙ c .before .before .before .before .before .before .before .before .before .before .match .keys8 in
       let k = child-sequence (r .ready) key in
@@ -216,7 +221,7 @@ module _ (t : ℕ) where
 
   resume-requires-6 : resume-lts.Need-resume-requires-6 (claims t) (resume-at t) resume.Post
   resume-requires-6 c κs =
-      let s = c .before .before .before .before .before .before .before .before .before .before .before .before .before .before .before .before .before .before .before in
+      let s = c .before .before .before .before .before .before .before .before .before .before .before .before .before .before .before .before .before .before .before .before in
       let r = s .pre .1 .1 in
       let key = sym (c .before .before .before .before .before .before .before .before .before .before .before .before .before .kind-of .ensures) ∙ c .before .before .before .before .before .before .before .before .before .before .before .before .match .keys8 in
       let k = child-sequence (r .ready) key in
@@ -227,7 +232,7 @@ module _ (t : ℕ) where
 
   either-requires-3 : resume-lts.Need-either-requires-3 (claims t) (resume-at t) resume.Post
   either-requires-3 c κs =
-      let s = c .before .before .before .before .before .before .before .before .before .before .before .before .before .before .before .before .before .before .before .before .before .before .before in
+      let s = c .before .before .before .before .before .before .before .before .before .before .before .before .before .before .before .before .before .before .before .before .before .before .before .before in
       let r = s .pre .1 .1 in
       let key = sym (c .before .before .before .before .before .before .before .before .before .before .before .before .before .before .before .before .before .kind-of .ensures) ∙ c .before .before .before .before .before .before .before .before .before .before .before .before .before .before .before .before .match .keys8 in
       let k = child-sequence (r .ready) key in
@@ -238,95 +243,95 @@ module _ (t : ℕ) where
 
   mul-second-3 : resume-lts.Need-mul-second-3 (claims t) (resume-at t) resume.Post
   mul-second-3 c =
-      let s = c .before .before .before .before .before .before .before in
+      let s = c .before .before .before .before .before .before .before .before in
       let r = s .pre .1 .1 in
       omega (arith, place-few (ready-at (r .ready) (child-parallel (r .ready) (sym (c .before .kind-of .ensures) ∙ c .match .keys9))))
 
   element-copy-out-second-3 : resume-lts.Need-element-copy-out-second-3 (claims t) (resume-at t) resume.Post
   element-copy-out-second-3 c =
-      let s = c .before .before .before .before .before .before .before in
+      let s = c .before .before .before .before .before .before .before .before in
       let r = s .pre .1 .1 in
       place-few (ready-at (r .ready) (child-parallel (r .ready) (sym (c .before .kind-of .ensures) ∙ c .match .keys9)))
 
   cast-second-3 : resume-lts.Need-cast-second-3 (claims t) (resume-at t) resume.Post
   cast-second-3 c =
-      let s = c .before .before .before .before .before .before .before .before in
+      let s = c .before .before .before .before .before .before .before .before .before in
       let r = s .pre .1 .1 in
       omega (arith, place-few (ready-at (r .ready) (child-beside (r .ready) (getD (s .args .ends .now) (s .args .at + 1) 0) refl (sym (c .before .before .kind-of .ensures) ∙ c .before .match .keys9))))
 
-  mul-if2 : resume-lts.Need-mul-if2 (claims t) (resume-at t) resume.Post
-  mul-if2 c =
-      let s = c .before .before .before .before .before .before .before .before in
+  mul-if3 : resume-lts.Need-mul-if3 (claims t) (resume-at t) resume.Post
+  mul-if3 c =
+      let s = c .before .before .before .before .before .before .before .before .before in
       let r = s .pre .1 .1 in
       omega (arith, place-few (ready-at (r .ready) (child-parallel (r .ready) (sym (c .before .before .kind-of .ensures) ∙ c .before .match .keys9))))
 
-  element-copy-out-if2 : resume-lts.Need-element-copy-out-if2 (claims t) (resume-at t) resume.Post
-  element-copy-out-if2 c =
-      let s = c .before .before .before .before .before .before .before .before in
+  element-copy-out-if3 : resume-lts.Need-element-copy-out-if3 (claims t) (resume-at t) resume.Post
+  element-copy-out-if3 c =
+      let s = c .before .before .before .before .before .before .before .before .before in
       let r = s .pre .1 .1 in
       place-few (ready-at (r .ready) (child-parallel (r .ready) (sym (c .before .before .kind-of .ensures) ∙ c .before .match .keys9)))
 
   resume-requires-7 : resume-lts.Need-resume-requires-7 (claims t) (resume-at t) resume.Post
   resume-requires-7 c κs =
-      let s = c .before .before .before .before .before .before .before .before .before .before .before in
+      let s = c .before .before .before .before .before .before .before .before .before .before .before .before in
       let r = s .pre .1 .1 in
       let j = child-beside (r .ready) (getD (s .args .ends .now) (s .args .at + 1) 0) refl (sym (c .before .before .before .before .before .kind-of .ensures) ∙ c .before .before .before .before .match .keys9) in
       (omega (arith, s .pre .0, j .less), ((s .pre .1 .0), resumable-at r j))
 
-  returns-2 : resume-lts.Need-returns-2 (claims t) (resume-at t) resume.Post
-  returns-2 c =
-      let s = c .before .before .before .before .before .before .before .before .before .before .before .before .before .before in
+  returns-3 : resume-lts.Need-returns-3 (claims t) (resume-at t) resume.Post
+  returns-3 c =
+      let s = c .before .before .before .before .before .before .before .before .before .before .before .before .before .before .before in
       let r = s .pre .1 .1 in
       let key = sym (c .before .before .before .before .before .before .before .before .kind-of .ensures) ∙ c .before .before .before .before .before .before .before .match .keys9 in
       let k = child-parallel (r .ready) key in
       let j = child-beside (r .ready) (getD (s .args .ends .now) (s .args .at + 1) 0) refl key in
-      resumed-right (r .ready) (s .args .labels) (s .args .assumed) (getD (s .args .ends .now) (s .args .at + 1) 0) refl key (meets-not (resumable-at r k) (s .args .labels) (getD (s .args .pauses .now) (s .args .at + 1) 0) refl (c .before .before .before .before .if2 .taken)) (made-need (s .args .base + roomFor (partAt (s .args .nodes .now) (s .args .at))) (c .before .before .resume7 .ensures) (omega (arith, j .less)))
+      resumed-right (r .ready) (s .args .labels) (s .args .assumed) (getD (s .args .ends .now) (s .args .at + 1) 0) refl key (meets-not (resumable-at r k) (s .args .labels) (getD (s .args .pauses .now) (s .args .at + 1) 0) refl (c .before .before .before .before .if3 .taken)) (made-need (s .args .base + roomFor (partAt (s .args .nodes .now) (s .args .at))) (c .before .before .resume7 .ensures) (omega (arith, j .less)))
 
   same-length : resume-lts.Need-same-length (claims t) (resume-at t) resume.Post
-  same-length c = returns-2 c .same
+  same-length c = returns-3 c .same
 
   resume-requires-8 : resume-lts.Need-resume-requires-8 (claims t) (resume-at t) resume.Post
   resume-requires-8 c κs =
-      let s = c .before .before .before .before .before .before .before .before .before .before .before in
+      let s = c .before .before .before .before .before .before .before .before .before .before .before .before in
       let r = s .pre .1 .1 in
       let k = child-parallel (r .ready) (sym (c .before .before .before .before .before .kind-of .ensures) ∙ c .before .before .before .before .match .keys9) in
       (omega (arith, s .pre .0, k .less), ((s .pre .1 .0), resumable-at r k))
 
-  mul-if3 : resume-lts.Need-mul-if3 (claims t) (resume-at t) resume.Post
-  mul-if3 c =
-      let s = c .before .before .before .before .before .before .before .before .before .before .before .before .before .before in
+  mul-if4 : resume-lts.Need-mul-if4 (claims t) (resume-at t) resume.Post
+  mul-if4 c =
+      let s = c .before .before .before .before .before .before .before .before .before .before .before .before .before .before .before in
       let r = s .pre .1 .1 in
       omega (arith, place-few (ready-at (r .ready) (child-beside (r .ready) (getD (s .args .ends .now) (s .args .at + 1) 0) refl (sym (c .before .before .before .before .before .before .before .before .kind-of .ensures) ∙ c .before .before .before .before .before .before .before .match .keys9))))
 
-  element-copy-out-if3 : resume-lts.Need-element-copy-out-if3 (claims t) (resume-at t) resume.Post
-  element-copy-out-if3 c =
-      let s = c .before .before .before .before .before .before .before .before .before .before .before .before .before .before in
+  element-copy-out-if4 : resume-lts.Need-element-copy-out-if4 (claims t) (resume-at t) resume.Post
+  element-copy-out-if4 c =
+      let s = c .before .before .before .before .before .before .before .before .before .before .before .before .before .before .before in
       let r = s .pre .1 .1 in
       place-few (ready-at (r .ready) (child-beside (r .ready) (getD (s .args .ends .now) (s .args .at + 1) 0) refl (sym (c .before .before .before .before .before .before .before .before .kind-of .ensures) ∙ c .before .before .before .before .before .before .before .match .keys9)))
 
-  returns-3 : resume-lts.Need-returns-3 (claims t) (resume-at t) resume.Post
-  returns-3 c =
-      let s = c .before .before .before .before .before .before .before .before .before .before .before .before .before .before .before .before in
+  returns-4 : resume-lts.Need-returns-4 (claims t) (resume-at t) resume.Post
+  returns-4 c =
+      let s = c .before .before .before .before .before .before .before .before .before .before .before .before .before .before .before .before .before in
       let r = s .pre .1 .1 in
       let key = sym (c .before .before .before .before .before .before .before .before .before .before .kind-of .ensures) ∙ c .before .before .before .before .before .before .before .before .before .match .keys9 in
       let k = child-parallel (r .ready) key in
       let m = (made-need (s .args .base + roomFor (partAt (s .args .nodes .now) (s .args .at))) (c .before .before .before .before .resume8 .ensures) (omega (arith, k .less))) in
       let j = child-beside (r .ready) (getD (s .args .ends .now) (s .args .at + 1) 0) refl key in
-      resumed-left (r .ready) (s .args .labels) (s .args .assumed) (getD (s .args .ends .now) (s .args .at + 1) 0) refl key (meets (resumable-at r k) (s .args .labels) (getD (s .args .pauses .now) (s .args .at + 1) 0) refl (c .before .before .before .before .before .before .if2 .left)) (meets-not (resumable-at r j) (s .args .labels) (getD (s .args .pauses .now) (getD (s .args .ends .now) (s .args .at + 1) 0) 0) refl (c .if3 .taken)) m
+      resumed-left (r .ready) (s .args .labels) (s .args .assumed) (getD (s .args .ends .now) (s .args .at + 1) 0) refl key (meets (resumable-at r k) (s .args .labels) (getD (s .args .pauses .now) (s .args .at + 1) 0) refl (c .before .before .before .before .before .before .if3 .left)) (meets-not (resumable-at r j) (s .args .labels) (getD (s .args .pauses .now) (getD (s .args .ends .now) (s .args .at + 1) 0) 0) refl (c .if4 .taken)) m
 
   same-length-2 : resume-lts.Need-same-length-2 (claims t) (resume-at t) resume.Post
-  same-length-2 c = returns-3 c .same
+  same-length-2 c = returns-4 c .same
 
   above-requires-4 : resume-lts.Need-above-requires-4 (claims t) (resume-at t) resume.Post
   above-requires-4 c κs =
-      let s = c .before .before .before .before .before .before .before .before .before .before .before .before .before .before .before .before .before in
+      let s = c .before .before .before .before .before .before .before .before .before .before .before .before .before .before .before .before .before .before in
       let k = child-parallel (s .pre .1 .1 .ready) (sym (c .before .before .before .before .before .before .before .before .before .before .before .kind-of .ensures) ∙ c .before .before .before .before .before .before .before .before .before .before .match .keys9) in
       let m = (made-need (s .args .base + roomFor (partAt (s .args .nodes .now) (s .args .at))) (c .before .before .before .before .before .resume8 .ensures) (omega (arith, k .less))) in
       (omega (arith, (s .pre .1 .0), m .same), λ h. omega (arith, m .fits h, m .same))
 
   resume-requires-9 : resume-lts.Need-resume-requires-9 (claims t) (resume-at t) resume.Post
   resume-requires-9 c κs =
-      let s = c .before .before .before .before .before .before .before .before .before .before .before .before .before .before .before .before .before .before .before in
+      let s = c .before .before .before .before .before .before .before .before .before .before .before .before .before .before .before .before .before .before .before .before in
       let r = s .pre .1 .1 in
       let key = sym (c .before .before .before .before .before .before .before .before .before .before .before .before .before .kind-of .ensures) ∙ c .before .before .before .before .before .before .before .before .before .before .before .before .match .keys9 in
       let k = child-parallel (r .ready) key in
@@ -336,7 +341,7 @@ module _ (t : ℕ) where
 
   together-requires : resume-lts.Need-together-requires (claims t) (resume-at t) resume.Post
   together-requires c κs =
-      let s = c .before .before .before .before .before .before .before .before .before .before .before .before .before .before .before .before .before .before .before .before .before .before .before in
+      let s = c .before .before .before .before .before .before .before .before .before .before .before .before .before .before .before .before .before .before .before .before .before .before .before .before in
       let r = s .pre .1 .1 in
       let key = sym (c .before .before .before .before .before .before .before .before .before .before .before .before .before .before .before .before .before .kind-of .ensures) ∙ c .before .before .before .before .before .before .before .before .before .before .before .before .before .before .before .before .match .keys9 in
       let k = child-parallel (r .ready) key in
@@ -346,14 +351,14 @@ module _ (t : ℕ) where
 
   resume-requires-10 : resume-lts.Need-resume-requires-10 (claims t) (resume-at t) resume.Post
   resume-requires-10 c κs =
-      let s = c .before .before .before .before .before .before .before .before in
+      let s = c .before .before .before .before .before .before .before .before .before in
       let r = s .pre .1 .1 in
       let k = child-loop (r .ready) (sym (c .before .before .kind-of .ensures) ∙ c .before .match .keys10) in
       (omega (arith, s .pre .0, k .less), ((s .pre .1 .0), resumable-at r k))
 
   follow-again-requires : resume-lts.Need-follow-again-requires (claims t) (resume-at t) resume.Post
   follow-again-requires c κs =
-      let s = c .before .before .before .before .before .before .before .before .before .before .before .before in
+      let s = c .before .before .before .before .before .before .before .before .before .before .before .before .before in
       let r = s .pre .1 .1 in
       let k = child-loop (r .ready) (sym (c .before .before .before .before .before .before .kind-of .ensures) ∙ c .before .before .before .before .before .match .keys10) in
       let m = (made-need (s .args .base + roomFor (partAt (s .args .nodes .now) (s .args .at))) (c .before .before .before .resume10 .ensures) (omega (arith, k .less))) in
@@ -361,7 +366,7 @@ module _ (t : ℕ) where
 
   resume-requires-11 : resume-lts.Need-resume-requires-11 (claims t) (resume-at t) resume.Post
   resume-requires-11 c κs =
-      let s = c .before .before .before .before .before .before .before .before in
+      let s = c .before .before .before .before .before .before .before .before .before in
       let r = s .pre .1 .1 in
       let k = child-try (r .ready) (sym (c .before .before .kind-of .ensures) ∙ c .before .match .keys11) in
       (omega (arith, s .pre .0, k .less), ((s .pre .1 .0), resumable-at r k))
@@ -369,38 +374,38 @@ module _ (t : ℕ) where
   alter-requires-2 : resume-lts.Need-alter-requires-2 (claims t) (resume-at t) resume.Post
   alter-requires-2 c κs = λ h. omega (arith, c .before .before .before .resume11 .ensures .fits h, c .before .before .before .resume11 .ensures .same)
 
-  returns-4 : resume-lts.Need-returns-4 (claims t) (resume-at t) resume.Post
-  returns-4 c =
-      let s = c .before .before .before .before .before .before .before in
-      resumed-nothing (s .pre .1 .1 .ready) (s .args .labels) (s .args .assumed) (s .args .area .now) (s .args .base) (s .args .base + roomFor (partAt (s .args .nodes .now) (s .args .at))) (s .pre .1 .0) (sym (c .before .kind-of .ensures) ∙ c .match .keys1)
-
   returns-5 : resume-lts.Need-returns-5 (claims t) (resume-at t) resume.Post
   returns-5 c =
-      let s = c .before .before .before .before .before .before .before .before .before .before .before in
-      let r = s .pre .1 .1 in
-      resumed-pause (r .ready) (s .args .labels) (s .args .assumed) (sym (c .before .before .before .before .before .kind-of .ensures) ∙ c .before .before .before .before .match .keys2) (meets r (s .args .labels) (getD (s .args .pauses .now) (s .args .at) 0) refl (c .before .before .before .before .before .before .before .before .if1 .left)) (c .before .before .alone .ensures)
-
-  same-length-3 : resume-lts.Need-same-length-3 (claims t) (resume-at t) resume.Post
-  same-length-3 c = returns-5 c .same
+      let s = c .before .before .before .before .before .before .before .before in
+      resumed-nothing (s .pre .1 .1 .ready) (s .args .labels) (s .args .assumed) (s .args .area .now) (s .args .base) (s .args .base + roomFor (partAt (s .args .nodes .now) (s .args .at))) (s .pre .1 .0) (sym (c .before .kind-of .ensures) ∙ c .match .keys1)
 
   returns-6 : resume-lts.Need-returns-6 (claims t) (resume-at t) resume.Post
   returns-6 c =
-      let s = c .before .before .before .before .before .before .before in
-      resumed-gotopause (s .pre .1 .1 .ready) (s .args .labels) (s .args .assumed) (s .args .area .now) (s .args .base) (s .args .base + roomFor (partAt (s .args .nodes .now) (s .args .at))) (s .pre .1 .0) (sym (c .before .kind-of .ensures) ∙ c .match .keys3)
+      let s = c .before .before .before .before .before .before .before .before .before .before .before .before in
+      let r = s .pre .1 .1 in
+      resumed-pause (r .ready) (s .args .labels) (s .args .assumed) (sym (c .before .before .before .before .before .kind-of .ensures) ∙ c .before .before .before .before .match .keys2) (meets r (s .args .labels) (getD (s .args .pauses .now) (s .args .at) 0) refl (c .before .before .before .before .before .before .before .before .if2 .left)) (c .before .before .alone .ensures)
+
+  same-length-3 : resume-lts.Need-same-length-3 (claims t) (resume-at t) resume.Post
+  same-length-3 c = returns-6 c .same
 
   returns-7 : resume-lts.Need-returns-7 (claims t) (resume-at t) resume.Post
   returns-7 c =
-      let s = c .before .before .before .before .before .before .before in
-      resumed-emit (s .pre .1 .1 .ready) (s .args .labels) (s .args .assumed) (s .args .area .now) (s .args .base) (s .args .base + roomFor (partAt (s .args .nodes .now) (s .args .at))) (s .pre .1 .0) (sym (c .before .kind-of .ensures) ∙ c .match .keys4)
+      let s = c .before .before .before .before .before .before .before .before in
+      resumed-gotopause (s .pre .1 .1 .ready) (s .args .labels) (s .args .assumed) (s .args .area .now) (s .args .base) (s .args .base + roomFor (partAt (s .args .nodes .now) (s .args .at))) (s .pre .1 .0) (sym (c .before .kind-of .ensures) ∙ c .match .keys3)
 
   returns-8 : resume-lts.Need-returns-8 (claims t) (resume-at t) resume.Post
   returns-8 c =
-      let s = c .before .before .before .before .before .before .before in
-      resumed-exit (s .pre .1 .1 .ready) (s .args .labels) (s .args .assumed) (s .args .area .now) (s .args .base) (s .args .base + roomFor (partAt (s .args .nodes .now) (s .args .at))) (s .pre .1 .0) (sym (c .before .kind-of .ensures) ∙ c .match .keys5)
+      let s = c .before .before .before .before .before .before .before .before in
+      resumed-emit (s .pre .1 .1 .ready) (s .args .labels) (s .args .assumed) (s .args .area .now) (s .args .base) (s .args .base + roomFor (partAt (s .args .nodes .now) (s .args .at))) (s .pre .1 .0) (sym (c .before .kind-of .ensures) ∙ c .match .keys4)
 
   returns-9 : resume-lts.Need-returns-9 (claims t) (resume-at t) resume.Post
   returns-9 c =
-      let s = c .before .before .before .before .before .before .before .before .before .before .before .before .before .before .before .before .before .before .before .before .before .before .before .before .before .before .before in
+      let s = c .before .before .before .before .before .before .before .before in
+      resumed-exit (s .pre .1 .1 .ready) (s .args .labels) (s .args .assumed) (s .args .area .now) (s .args .base) (s .args .base + roomFor (partAt (s .args .nodes .now) (s .args .at))) (s .pre .1 .0) (sym (c .before .kind-of .ensures) ∙ c .match .keys5)
+
+  returns-10 : resume-lts.Need-returns-10 (claims t) (resume-at t) resume.Post
+  returns-10 c =
+      let s = c .before .before .before .before .before .before .before .before .before .before .before .before .before .before .before .before .before .before .before .before .before .before .before .before .before .before .before .before in
       let r = s .pre .1 .1 in
       let key = sym (c .before .before .before .before .before .before .before .before .before .before .before .before .before .before .before .before .before .before .before .before .before .kind-of .ensures) ∙ c .before .before .before .before .before .before .before .before .before .before .before .before .before .before .before .before .before .before .before .before .match .keys6 in
       let k = child-signal (r .ready) key in
@@ -408,11 +413,11 @@ module _ (t : ℕ) where
       list-signal (r .ready) (s .args .assumed) (resumed (s .args .labels)) key (c .before .before .before .before .before .before .before .before .before .before .before .before .before .before .before .before .before .before .before .before .before .before .operand-of .result) _ _ (c .before .before .before .before .before .before .before .before .before .before .before .before .before .before .before .before .before .before .before .before .before .before .operand-of .ensures) (c .before .before .before .before .before .before .before .before .before .before .before .before .before .before .before .before .before .before .before .with-number .ensures) (c .before .before .before .before .before .before .before .before .without .ensures) (joined m (c .before .before .before .before .before .before .before .before .before .above .ensures) (omega (arith, k .less)) _++_ (c .before .before .before .before .before .before .resume2 .ensures) (λ h e. omega (arith, k .less)) (s .pre .1 .0) (c .before .before .either .ensures))
 
   same-length-4 : resume-lts.Need-same-length-4 (claims t) (resume-at t) resume.Post
-  same-length-4 c = returns-9 c .same
+  same-length-4 c = returns-10 c .same
 
-  returns-10 : resume-lts.Need-returns-10 (claims t) (resume-at t) resume.Post
-  returns-10 c =
-      let s = c .before .before .before .before .before .before .before .before .before .before .before .before .before .before .before .before .before .before .before .before .before .before in
+  returns-11 : resume-lts.Need-returns-11 (claims t) (resume-at t) resume.Post
+  returns-11 c =
+      let s = c .before .before .before .before .before .before .before .before .before .before .before .before .before .before .before .before .before .before .before .before .before .before .before in
       let r = s .pre .1 .1 in
       let key = sym (c .before .before .before .before .before .before .before .before .before .before .before .before .before .before .before .before .kind-of .ensures) ∙ c .before .before .before .before .before .before .before .before .before .before .before .before .before .before .before .match .keys7 in
       let k = child-present (r .ready) key in
@@ -421,11 +426,11 @@ module _ (t : ℕ) where
       resumed-present (r .ready) (s .args .labels) (s .args .assumed) (getD (s .args .ends .now) (s .args .at + 1) 0) refl key (joined m (c .before .before .before .before .before .before .before .before .above2 .ensures) (omega (arith, k .less)) _++_ (c .before .before .before .before .before .before .resume4 .ensures) (λ h e. omega (arith, j .less)) (s .pre .1 .0) (c .before .before .either2 .ensures))
 
   same-length-5 : resume-lts.Need-same-length-5 (claims t) (resume-at t) resume.Post
-  same-length-5 c = returns-10 c .same
+  same-length-5 c = returns-11 c .same
 
-  returns-11 : resume-lts.Need-returns-11 (claims t) (resume-at t) resume.Post
-  returns-11 c =
-      let s = c .before .before .before .before .before .before .before .before .before .before .before .before .before .before .before .before .before .before .before .before .before .before .before .before .before .before in
+  returns-12 : resume-lts.Need-returns-12 (claims t) (resume-at t) resume.Post
+  returns-12 c =
+      let s = c .before .before .before .before .before .before .before .before .before .before .before .before .before .before .before .before .before .before .before .before .before .before .before .before .before .before .before in
       let r = s .pre .1 .1 in
       let key = sym (c .before .before .before .before .before .before .before .before .before .before .before .before .before .before .before .before .before .before .before .before .kind-of .ensures) ∙ c .before .before .before .before .before .before .before .before .before .before .before .before .before .before .before .before .before .before .before .match .keys8 in
       let k = child-sequence (r .ready) key in
@@ -435,24 +440,24 @@ module _ (t : ℕ) where
       resumed-sequence (r .ready) (s .args .labels) (s .args .assumed) (getD (s .args .ends .now) (s .args .at + 1) 0) refl key (joined m (c .before .before .before .before .before .before .before .before .above3 .ensures) (omega (arith, k .less)) _++_ (c .before .before .before .before .before .before .resume6 .ensures) (λ h e. omega (arith, j .less)) (s .pre .1 .0) (c .before .before .either3 .ensures))
 
   same-length-6 : resume-lts.Need-same-length-6 (claims t) (resume-at t) resume.Post
-  same-length-6 c = returns-11 c .same
+  same-length-6 c = returns-12 c .same
 
-  returns-12 : resume-lts.Need-returns-12 (claims t) (resume-at t) resume.Post
-  returns-12 c =
-      let s = c .before .before .before .before .before .before .before .before .before .before .before .before .before .before .before .before .before .before .before .before .before .before .before .before .before .before in
+  returns-13 : resume-lts.Need-returns-13 (claims t) (resume-at t) resume.Post
+  returns-13 c =
+      let s = c .before .before .before .before .before .before .before .before .before .before .before .before .before .before .before .before .before .before .before .before .before .before .before .before .before .before .before in
       let r = s .pre .1 .1 in
       let key = sym (c .before .before .before .before .before .before .before .before .before .before .before .before .before .before .before .before .before .before .before .before .kind-of .ensures) ∙ c .before .before .before .before .before .before .before .before .before .before .before .before .before .before .before .before .before .before .before .match .keys9 in
       let k = child-parallel (r .ready) key in
       let m = (made-need (s .args .base + roomFor (partAt (s .args .nodes .now) (s .args .at))) (c .before .before .before .before .before .before .before .before .before .before .before .before .before .before .resume8 .ensures) (omega (arith, k .less))) in
       let j = child-beside (r .ready) (getD (s .args .ends .now) (s .args .at + 1) 0) refl key in
-      resumed-both (r .ready) (s .args .labels) (s .args .assumed) (getD (s .args .ends .now) (s .args .at + 1) 0) refl key (meets (resumable-at r k) (s .args .labels) (getD (s .args .pauses .now) (s .args .at + 1) 0) refl (c .before .before .before .before .before .before .before .before .before .before .before .before .before .before .before .before .if2 .left)) (meets (resumable-at r j) (s .args .labels) (getD (s .args .pauses .now) (getD (s .args .ends .now) (s .args .at + 1) 0) 0) refl (c .before .before .before .before .before .before .before .before .before .before .if3 .left)) (joined m (c .before .before .before .before .before .before .before .before .above4 .ensures) (omega (arith, k .less)) (product Parallel) (c .before .before .before .before .before .before .resume9 .ensures) (λ h e. omega (arith, j .less)) (s .pre .1 .0) (c .before .before .together .ensures))
+      resumed-both (r .ready) (s .args .labels) (s .args .assumed) (getD (s .args .ends .now) (s .args .at + 1) 0) refl key (meets (resumable-at r k) (s .args .labels) (getD (s .args .pauses .now) (s .args .at + 1) 0) refl (c .before .before .before .before .before .before .before .before .before .before .before .before .before .before .before .before .if3 .left)) (meets (resumable-at r j) (s .args .labels) (getD (s .args .pauses .now) (getD (s .args .ends .now) (s .args .at + 1) 0) 0) refl (c .before .before .before .before .before .before .before .before .before .before .if4 .left)) (joined m (c .before .before .before .before .before .before .before .before .above4 .ensures) (omega (arith, k .less)) (product Parallel) (c .before .before .before .before .before .before .resume9 .ensures) (λ h e. omega (arith, j .less)) (s .pre .1 .0) (c .before .before .together .ensures))
 
   same-length-7 : resume-lts.Need-same-length-7 (claims t) (resume-at t) resume.Post
-  same-length-7 c = returns-12 c .same
+  same-length-7 c = returns-13 c .same
 
-  returns-13 : resume-lts.Need-returns-13 (claims t) (resume-at t) resume.Post
-  returns-13 c =
-      let s = c .before .before .before .before .before .before .before .before .before .before .before .before .before .before .before in
+  returns-14 : resume-lts.Need-returns-14 (claims t) (resume-at t) resume.Post
+  returns-14 c =
+      let s = c .before .before .before .before .before .before .before .before .before .before .before .before .before .before .before .before in
       let r = s .pre .1 .1 in
       let key = sym (c .before .before .before .before .before .before .before .before .before .kind-of .ensures) ∙ c .before .before .before .before .before .before .before .before .match .keys10 in
       let k = child-loop (r .ready) key in
@@ -460,28 +465,28 @@ module _ (t : ℕ) where
       resumed-loop (r .ready) (s .args .labels) (s .args .assumed) key (followed m (c .before .before .follow-again .ensures) (omega (arith, k .less)))
 
   same-length-8 : resume-lts.Need-same-length-8 (claims t) (resume-at t) resume.Post
-  same-length-8 c = returns-13 c .same
+  same-length-8 c = returns-14 c .same
 
-  returns-14 : resume-lts.Need-returns-14 (claims t) (resume-at t) resume.Post
-  returns-14 c =
-      let s = c .before .before .before .before .before .before .before .before .before .before .before .before .before .before .before in
+  returns-15 : resume-lts.Need-returns-15 (claims t) (resume-at t) resume.Post
+  returns-15 c =
+      let s = c .before .before .before .before .before .before .before .before .before .before .before .before .before .before .before .before in
       let r = s .pre .1 .1 in
       let key = sym (c .before .before .before .before .before .before .before .before .before .kind-of .ensures) ∙ c .before .before .before .before .before .before .before .before .match .keys11 in
       let k = child-try (r .ready) key in
       list-try (r .ready) (s .args .assumed) (resumed (s .args .labels)) key (altered Caught (made-need (s .args .base + roomFor (partAt (s .args .nodes .now) (s .args .at))) (c .before .before .before .before .before .before .resume11 .ensures) (omega (arith, k .less))) (c .before .before .alter2 .ensures))
 
   same-length-9 : resume-lts.Need-same-length-9 (claims t) (resume-at t) resume.Post
-  same-length-9 c = returns-14 c .same
-
-  returns-15 : resume-lts.Need-returns-15 (claims t) (resume-at t) resume.Post
-  returns-15 c =
-      let s = c .before .before .before .before .before .before .before .before in
-      resumed-unused (s .pre .1 .1 .ready) (s .args .labels) (s .args .assumed) (s .args .area .now) (s .args .base) (s .args .base + roomFor (partAt (s .args .nodes .now) (s .args .at))) (s .pre .1 .0) (subst (λ (z : ℕ). 10 < z) (c .before .before .kind-of .ensures) (no-kind (c .before .before .kind-of .result) (c .before .match .rest .0 .0 .0 .0 .0 .0 .0 .0 .0 .0 .1) (c .before .match .rest .0 .0 .0 .0 .0 .0 .0 .0 .0 .1) (c .before .match .rest .0 .0 .0 .0 .0 .0 .0 .0 .1) (c .before .match .rest .0 .0 .0 .0 .0 .0 .0 .1) (c .before .match .rest .0 .0 .0 .0 .0 .0 .1) (c .before .match .rest .0 .0 .0 .0 .0 .1) (c .before .match .rest .0 .0 .0 .0 .1) (c .before .match .rest .0 .0 .0 .1) (c .before .match .rest .0 .0 .1) (c .before .match .rest .0 .1) (c .before .match .rest .1)))
+  same-length-9 c = returns-15 c .same
 
   returns-16 : resume-lts.Need-returns-16 (claims t) (resume-at t) resume.Post
   returns-16 c =
-      let s = c .before .before .before .before .before .before .before .before in
-      resumed-unused (s .pre .1 .1 .ready) (s .args .labels) (s .args .assumed) (s .args .area .now) (s .args .base) (s .args .base + roomFor (partAt (s .args .nodes .now) (s .args .at))) (s .pre .1 .0) (let e = c .before .before .kind-of .ensures in omega (arith, c .if4 .left))
+      let s = c .before .before .before .before .before .before .before .before .before in
+      resumed-unused (s .pre .1 .1 .ready) (s .args .labels) (s .args .assumed) (s .args .area .now) (s .args .base) (s .args .base + roomFor (partAt (s .args .nodes .now) (s .args .at))) (s .pre .1 .0) (subst (λ (z : ℕ). 10 < z) (c .before .before .kind-of .ensures) (no-kind (c .before .before .kind-of .result) (c .before .match .rest .0 .0 .0 .0 .0 .0 .0 .0 .0 .0 .1) (c .before .match .rest .0 .0 .0 .0 .0 .0 .0 .0 .0 .1) (c .before .match .rest .0 .0 .0 .0 .0 .0 .0 .0 .1) (c .before .match .rest .0 .0 .0 .0 .0 .0 .0 .1) (c .before .match .rest .0 .0 .0 .0 .0 .0 .1) (c .before .match .rest .0 .0 .0 .0 .0 .1) (c .before .match .rest .0 .0 .0 .0 .1) (c .before .match .rest .0 .0 .0 .1) (c .before .match .rest .0 .0 .1) (c .before .match .rest .0 .1) (c .before .match .rest .1)))
+
+  returns-17 : resume-lts.Need-returns-17 (claims t) (resume-at t) resume.Post
+  returns-17 c =
+      let s = c .before .before .before .before .before .before .before .before .before in
+      resumed-unused (s .pre .1 .1 .ready) (s .args .labels) (s .args .assumed) (s .args .area .now) (s .args .base) (s .args .base + roomFor (partAt (s .args .nodes .now) (s .args .at))) (s .pre .1 .0) (let e = c .before .before .kind-of .ensures in omega (arith, c .if5 .left))
 
 pub +resume-spec : {M : Type 1} → statement M
 +resume-spec =
@@ -491,9 +496,10 @@ pub +resume-spec : {M : Type 1} → statement M
     (claims t)
     (resume-at t)
     resume.Post
-    (mul-if1 t)
-    (element-copy-out-if1 t)
     (returns t)
+    (mul-if2 t)
+    (element-copy-out-if2 t)
+    (returns-2 t)
     (mul-node t)
     (element-copy-out-node t)
     (operand-of-requires t)
@@ -525,16 +531,16 @@ pub +resume-spec : {M : Type 1} → statement M
     (mul-second-3 t)
     (element-copy-out-second-3 t)
     (cast-second-3 t)
-    (mul-if2 t)
-    (element-copy-out-if2 t)
-    (resume-requires-7 t)
-    (same-length t)
-    (returns-2 t)
-    (resume-requires-8 t)
     (mul-if3 t)
     (element-copy-out-if3 t)
-    (same-length-2 t)
+    (resume-requires-7 t)
+    (same-length t)
     (returns-3 t)
+    (resume-requires-8 t)
+    (mul-if4 t)
+    (element-copy-out-if4 t)
+    (same-length-2 t)
+    (returns-4 t)
     (above-requires-4 t)
     (resume-requires-9 t)
     (together-requires t)
@@ -542,23 +548,23 @@ pub +resume-spec : {M : Type 1} → statement M
     (follow-again-requires t)
     (resume-requires-11 t)
     (alter-requires-2 t)
-    (returns-4 t)
-    (same-length-3 t)
     (returns-5 t)
+    (same-length-3 t)
     (returns-6 t)
     (returns-7 t)
     (returns-8 t)
-    (same-length-4 t)
     (returns-9 t)
-    (same-length-5 t)
+    (same-length-4 t)
     (returns-10 t)
-    (same-length-6 t)
+    (same-length-5 t)
     (returns-11 t)
-    (same-length-7 t)
+    (same-length-6 t)
     (returns-12 t)
-    (same-length-8 t)
+    (same-length-7 t)
     (returns-13 t)
-    (same-length-9 t)
+    (same-length-8 t)
     (returns-14 t)
+    (same-length-9 t)
     (returns-15 t)
     (returns-16 t)
+    (returns-17 t)

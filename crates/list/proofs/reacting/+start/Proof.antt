@@ -10,7 +10,7 @@ use Rattle.esterel.specs.Reactions.{start as started}
 use Rattle.area.specs.declared.Change.the-variants.{Hide, Going, Caught}
 use Rattle.area.specs.declared.Pairing.the-variants.{Parallel}
 use Rattle.area.specs.Rules.{product}
-use Rattle.area.proofs.Made.{made-need}
+use Rattle.area.proofs.Made.{made-need, made-cramped}
 use Rattle.list.specs.Notes.{partAt}
 use Rattle.list.specs.Joins.{roomFor}
 use Rattle.list.proofs.Nodes.{no-kind}
@@ -53,53 +53,58 @@ abbrev claims : ℕ → start-lts.Claims
 claims t = (operand-of-reads.Asked, operand-of-reads.Learnt, kind-of-reads.Asked, kind-of-reads.Learnt, alone-reads.Asked, alone-reads.Learnt, singleton-reads.Asked, singleton-reads.Learnt, emitted-reads.Asked, emitted-reads.Learnt, exit-code-reads.Asked, exit-code-reads.Learnt, with-number-reads.Asked, with-number-reads.Learnt, start-below t, start.Post, alter-reads.Asked, alter-reads.Learnt, above-reads.Asked, above-reads.Learnt, without-reads.Asked, without-reads.Learnt, either-reads.Asked, either-reads.Learnt, contains-reads.Asked, contains-reads.Learnt, some-ends-reads.Asked, some-ends-reads.Learnt, product-reads.Asked, product-reads.Learnt, together-reads.Asked, together-reads.Learnt)
 
 module _ (t : ℕ) where
+  returns : start-lts.Need-returns (claims t) (start-at t) start.Post
+  returns c =
+      let s = c .before .before in
+      made-cramped (s .args .area .now) (s .args .base) (s .args .base + roomFor (partAt (s .args .nodes .now) (s .args .at))) 66 _ (omega arith) (let e = c .if1 .taken in omega arith)
+
   mul-node : start-lts.Need-mul-node (claims t) (start-at t) start.Post
-  mul-node c = omega (arith, place-few (c .before .pre .1 .1))
+  mul-node c = omega (arith, place-few (c .before .before .pre .1 .1))
 
   element-copy-out-node : start-lts.Need-element-copy-out-node (claims t) (start-at t) start.Post
-  element-copy-out-node c = place-few (c .before .pre .1 .1)
+  element-copy-out-node c = place-few (c .before .before .pre .1 .1)
 
   operand-of-requires : start-lts.Need-operand-of-requires (claims t) (start-at t) start.Post
   operand-of-requires c κs = tt
 
   add-first : start-lts.Need-add-first (claims t) (start-at t) start.Post
-  add-first c = omega (arith, place-few (c .before .before .before .pre .1 .1))
+  add-first c = omega (arith, place-few (c .before .before .before .before .pre .1 .1))
 
   kind-of-requires : start-lts.Need-kind-of-requires (claims t) (start-at t) start.Post
   kind-of-requires c κs = tt
 
   alone-requires : start-lts.Need-alone-requires (claims t) (start-at t) start.Post
-  alone-requires c κs = (c .before .before .before .before .before .before .pre .1 .0)
+  alone-requires c κs = (c .before .before .before .before .before .before .before .pre .1 .0)
 
   singleton-requires : start-lts.Need-singleton-requires (claims t) (start-at t) start.Post
   singleton-requires c κs = tt
 
   alone-requires-2 : start-lts.Need-alone-requires-2 (claims t) (start-at t) start.Post
-  alone-requires-2 c κs = (c .before .before .before .before .before .before .before .pre .1 .0)
+  alone-requires-2 c κs = (c .before .before .before .before .before .before .before .before .pre .1 .0)
 
   singleton-requires-2 : start-lts.Need-singleton-requires-2 (claims t) (start-at t) start.Post
   singleton-requires-2 c κs = tt
 
   alone-requires-3 : start-lts.Need-alone-requires-3 (claims t) (start-at t) start.Post
-  alone-requires-3 c κs = (c .before .before .before .before .before .before .before .pre .1 .0)
+  alone-requires-3 c κs = (c .before .before .before .before .before .before .before .before .pre .1 .0)
 
   emitted-requires : start-lts.Need-emitted-requires (claims t) (start-at t) start.Post
   emitted-requires c κs =
-      let s = c .before .before .before .before .before .before in
+      let s = c .before .before .before .before .before .before .before in
       ((s .pre .1 .0), subst (λ (z : ℕ). z < 32) (sym (c .before .before .before .operand-of .ensures)) (emits-narrow (s .pre .1 .1) (sym (c .before .before .kind-of .ensures) ∙ c .before .match .keys4)))
 
   exit-code-requires : start-lts.Need-exit-code-requires (claims t) (start-at t) start.Post
   exit-code-requires c κs = tt
 
   alone-requires-4 : start-lts.Need-alone-requires-4 (claims t) (start-at t) start.Post
-  alone-requires-4 c κs = (c .before .before .before .before .before .before .before .pre .1 .0)
+  alone-requires-4 c κs = (c .before .before .before .before .before .before .before .before .pre .1 .0)
 
   with-number-requires : start-lts.Need-with-number-requires (claims t) (start-at t) start.Post
   with-number-requires c κs = let e = c .before .before .operand-of .ensures in omega arith
 
   start-requires : start-lts.Need-start-requires (claims t) (start-at t) start.Post
   start-requires c κs =
-      let s = c .before .before .before .before .before .before .before in
+      let s = c .before .before .before .before .before .before .before .before in
       let r = s .pre .1 .1 in
       let k = child-signal r (sym (c .before .before .before .kind-of .ensures) ∙ c .before .before .match .keys6) in
       (omega (arith, s .pre .0, k .less), ((s .pre .1 .0), ready-at r k))
@@ -109,7 +114,7 @@ module _ (t : ℕ) where
 
   above-requires : start-lts.Need-above-requires (claims t) (start-at t) start.Post
   above-requires c κs =
-      let s = c .before .before .before .before .before .before .before .before .before .before .before .before .before .before .before in
+      let s = c .before .before .before .before .before .before .before .before .before .before .before .before .before .before .before .before in
       let k = child-signal (s .pre .1 .1) (sym (c .before .before .before .before .before .before .before .before .before .before .before .kind-of .ensures) ∙ c .before .before .before .before .before .before .before .before .before .before .match .keys6) in
       let m = altered (Hide (c .before .before .before .before .before .before .before .before .before .before .before .before .operand-of .result)) (made-need (s .args .base + roomFor (partAt (s .args .nodes .now) (s .args .at))) (c .before .before .before .before .before .before .before .start .ensures) (omega (arith, k .less))) (c .before .before .before .alter .ensures) in
       (omega (arith, (s .pre .1 .0), m .same), λ h. omega (arith, m .fits h, m .same))
@@ -119,7 +124,7 @@ module _ (t : ℕ) where
 
   start-requires-2 : start-lts.Need-start-requires-2 (claims t) (start-at t) start.Post
   start-requires-2 c κs =
-      let s = c .before .before .before .before .before .before .before .before .before .before .before .before .before .before .before .before .before .before in
+      let s = c .before .before .before .before .before .before .before .before .before .before .before .before .before .before .before .before .before .before .before in
       let r = s .pre .1 .1 in
       let k = child-signal r (sym (c .before .before .before .before .before .before .before .before .before .before .before .before .before .before .kind-of .ensures) ∙ c .before .before .before .before .before .before .before .before .before .before .before .before .before .match .keys6) in
       let m = altered (Hide (c .before .before .before .before .before .before .before .before .before .before .before .before .before .before .before .operand-of .result)) (made-need (s .args .base + roomFor (partAt (s .args .nodes .now) (s .args .at))) (c .before .before .before .before .before .before .before .before .before .before .start .ensures) (omega (arith, k .less))) (c .before .before .before .before .before .before .alter .ensures) in
@@ -127,7 +132,7 @@ module _ (t : ℕ) where
 
   either-requires : start-lts.Need-either-requires (claims t) (start-at t) start.Post
   either-requires c κs =
-      let s = c .before .before .before .before .before .before .before .before .before .before .before .before .before .before .before .before .before .before .before .before .before .before in
+      let s = c .before .before .before .before .before .before .before .before .before .before .before .before .before .before .before .before .before .before .before .before .before .before .before in
       let k = child-signal (s .pre .1 .1) (sym (c .before .before .before .before .before .before .before .before .before .before .before .before .before .before .before .before .before .before .kind-of .ensures) ∙ c .before .before .before .before .before .before .before .before .before .before .before .before .before .before .before .before .before .match .keys6) in
       let m = altered (Hide (c .before .before .before .before .before .before .before .before .before .before .before .before .before .before .before .before .before .before .before .operand-of .result)) (made-need (s .args .base + roomFor (partAt (s .args .nodes .now) (s .args .at))) (c .before .before .before .before .before .before .before .before .before .before .before .before .before .before .start .ensures) (omega (arith, k .less))) (c .before .before .before .before .before .before .before .before .before .before .alter .ensures) in
       beside-top m (c .before .before .before .before .before .before .above .ensures) (omega (arith, k .less)) (c .before .before .before .start2 .ensures) (λ h e. omega (arith, k .less))
@@ -137,153 +142,153 @@ module _ (t : ℕ) where
 
   start-requires-3 : start-lts.Need-start-requires-3 (claims t) (start-at t) start.Post
   start-requires-3 c κs =
-      let s = c .before .before .before .before .before .before .before .before in
+      let s = c .before .before .before .before .before .before .before .before .before in
       let r = s .pre .1 .1 in
       let k = child-present r (sym (c .before .before .before .before .kind-of .ensures) ∙ c .before .before .before .match .keys7) in
       (omega (arith, s .pre .0, k .less), ((s .pre .1 .0), ready-at r k))
 
   mul-start : start-lts.Need-mul-start (claims t) (start-at t) start.Post
   mul-start c =
-      let s = c .before .before .before .before .before .before .before in
+      let s = c .before .before .before .before .before .before .before .before in
       let r = s .pre .1 .1 in
       omega (arith, place-few (ready-at r (child-present r (sym (c .before .before .before .kind-of .ensures) ∙ c .before .before .match .keys7))))
 
   element-copy-out-start : start-lts.Need-element-copy-out-start (claims t) (start-at t) start.Post
   element-copy-out-start c =
-      let s = c .before .before .before .before .before .before .before in
+      let s = c .before .before .before .before .before .before .before .before in
       let r = s .pre .1 .1 in
       place-few (ready-at r (child-present r (sym (c .before .before .before .kind-of .ensures) ∙ c .before .before .match .keys7)))
 
   cast-start : start-lts.Need-cast-start (claims t) (start-at t) start.Post
   cast-start c =
-      let s = c .before .before .before .before .before .before .before .before in
+      let s = c .before .before .before .before .before .before .before .before .before in
       let r = s .pre .1 .1 in
       omega (arith, place-few (ready-at r (child-else r (getD (s .args .ends .now) (s .args .at + 1) 0) refl (sym (c .before .before .before .before .kind-of .ensures) ∙ c .before .before .before .match .keys7))))
 
   start-requires-4 : start-lts.Need-start-requires-4 (claims t) (start-at t) start.Post
   start-requires-4 c κs =
-      let s = c .before .before .before .before .before .before .before .before .before in
+      let s = c .before .before .before .before .before .before .before .before .before .before in
       let r = s .pre .1 .1 in
       let k = child-else r (getD (s .args .ends .now) (s .args .at + 1) 0) refl (sym (c .before .before .before .before .before .kind-of .ensures) ∙ c .before .before .before .before .match .keys7) in
       (omega (arith, s .pre .0, k .less), ((s .pre .1 .0), ready-at r k))
 
   start-requires-5 : start-lts.Need-start-requires-5 (claims t) (start-at t) start.Post
   start-requires-5 c κs =
-      let s = c .before .before .before .before .before .before in
+      let s = c .before .before .before .before .before .before .before in
       let r = s .pre .1 .1 in
       let k = child-sequence r (sym (c .before .before .kind-of .ensures) ∙ c .before .match .keys8) in
       (omega (arith, s .pre .0, k .less), ((s .pre .1 .0), ready-at r k))
 
   some-ends-requires : start-lts.Need-some-ends-requires (claims t) (start-at t) start.Post
   some-ends-requires c κs =
-      let s = c .before .before .before .before .before .before .before .before .before .before in
+      let s = c .before .before .before .before .before .before .before .before .before .before .before in
       let k = child-sequence (s .pre .1 .1) (sym (c .before .before .before .before .before .before .kind-of .ensures) ∙ c .before .before .before .before .before .match .keys8) in
       let m = (made-need (s .args .base + roomFor (partAt (s .args .nodes .now) (s .args .at))) (c .before .before .before .start5 .ensures) (omega (arith, k .less))) in
       λ h. omega (arith, m .fits h, m .same)
 
-  returns : start-lts.Need-returns (claims t) (start-at t) start.Post
-  returns c =
-      let s = c .before .before .before .before .before .before .before .before .before .before .before .before in
+  returns-2 : start-lts.Need-returns-2 (claims t) (start-at t) start.Post
+  returns-2 c =
+      let s = c .before .before .before .before .before .before .before .before .before .before .before .before .before in
       let r = s .pre .1 .1 in
       let key = sym (c .before .before .before .before .before .before .before .before .kind-of .ensures) ∙ c .before .before .before .before .before .before .before .match .keys8 in
       let k = child-sequence r key in
       let m = (made-need (s .args .base + roomFor (partAt (s .args .nodes .now) (s .args .at))) (c .before .before .before .before .before .start5 .ensures) (omega (arith, k .less))) in
-      list-sequence r (s .args .assumed) (getD (s .args .ends .now) (s .args .at + 1) 0) refl key (followed-not m _ (c .before .some-ends .ensures) (not-true _ (c .if2 .taken)))
+      list-sequence r (s .args .assumed) (getD (s .args .ends .now) (s .args .at + 1) 0) refl key (followed-not m _ (c .before .some-ends .ensures) (not-true _ (c .if3 .taken)))
 
   same-length : start-lts.Need-same-length (claims t) (start-at t) start.Post
-  same-length c = returns c .same
+  same-length c = returns-2 c .same
 
   mul-top : start-lts.Need-mul-top (claims t) (start-at t) start.Post
   mul-top c =
-      let s = c .before .before .before .before .before .before .before .before .before .before .before .before in
+      let s = c .before .before .before .before .before .before .before .before .before .before .before .before .before in
       let k = child-sequence (s .pre .1 .1) (sym (c .before .before .before .before .before .before .before .before .kind-of .ensures) ∙ c .before .before .before .before .before .before .before .match .keys8) in
       let m = (made-need (s .args .base + roomFor (partAt (s .args .nodes .now) (s .args .at))) (c .before .before .before .before .before .start5 .ensures) (omega (arith, k .less))) in
-      let h = ending-small (c .before .some-ends .ensures .1) (not-false _ (c .if2 .left)) in
+      let h = ending-small (c .before .some-ends .ensures .1) (not-false _ (c .if3 .left)) in
       omega (arith, h)
 
   add-top : start-lts.Need-add-top (claims t) (start-at t) start.Post
   add-top c =
-      let s = c .before .before .before .before .before .before .before .before .before .before .before .before in
+      let s = c .before .before .before .before .before .before .before .before .before .before .before .before .before in
       let k = child-sequence (s .pre .1 .1) (sym (c .before .before .before .before .before .before .before .before .kind-of .ensures) ∙ c .before .before .before .before .before .before .before .match .keys8) in
       let m = (made-need (s .args .base + roomFor (partAt (s .args .nodes .now) (s .args .at))) (c .before .before .before .before .before .start5 .ensures) (omega (arith, k .less))) in
-      let h = ending-small (c .before .some-ends .ensures .1) (not-false _ (c .if2 .left)) in
+      let h = ending-small (c .before .some-ends .ensures .1) (not-false _ (c .if3 .left)) in
       omega (arith, h, m .fits h, m .same)
 
   mul-start-2 : start-lts.Need-mul-start-2 (claims t) (start-at t) start.Post
   mul-start-2 c =
-      let s = c .before .before .before .before .before .before .before .before .before .before .before .before in
+      let s = c .before .before .before .before .before .before .before .before .before .before .before .before .before in
       let r = s .pre .1 .1 in
       omega (arith, place-few (ready-at r (child-sequence r (sym (c .before .before .before .before .before .before .before .before .kind-of .ensures) ∙ c .before .before .before .before .before .before .before .match .keys8))))
 
   element-copy-out-start-2 : start-lts.Need-element-copy-out-start-2 (claims t) (start-at t) start.Post
   element-copy-out-start-2 c =
-      let s = c .before .before .before .before .before .before .before .before .before .before .before .before in
+      let s = c .before .before .before .before .before .before .before .before .before .before .before .before .before in
       let r = s .pre .1 .1 in
       place-few (ready-at r (child-sequence r (sym (c .before .before .before .before .before .before .before .before .kind-of .ensures) ∙ c .before .before .before .before .before .before .before .match .keys8)))
 
   cast-start-2 : start-lts.Need-cast-start-2 (claims t) (start-at t) start.Post
   cast-start-2 c =
-      let s = c .before .before .before .before .before .before .before .before .before .before .before .before .before in
+      let s = c .before .before .before .before .before .before .before .before .before .before .before .before .before .before in
       let r = s .pre .1 .1 in
       omega (arith, place-few (ready-at r (child-then r (getD (s .args .ends .now) (s .args .at + 1) 0) refl (sym (c .before .before .before .before .before .before .before .before .before .kind-of .ensures) ∙ c .before .before .before .before .before .before .before .before .match .keys8))))
 
   start-requires-6 : start-lts.Need-start-requires-6 (claims t) (start-at t) start.Post
   start-requires-6 c κs =
-      let s = c .before .before .before .before .before .before .before .before .before .before .before .before .before .before in
+      let s = c .before .before .before .before .before .before .before .before .before .before .before .before .before .before .before in
       let r = s .pre .1 .1 in
       let key = sym (c .before .before .before .before .before .before .before .before .before .before .kind-of .ensures) ∙ c .before .before .before .before .before .before .before .before .before .match .keys8 in
       let k = child-sequence r key in
       let m = (made-need (s .args .base + roomFor (partAt (s .args .nodes .now) (s .args .at))) (c .before .before .before .before .before .before .before .start5 .ensures) (omega (arith, k .less))) in
-      let h = ending-small (c .before .before .before .some-ends .ensures .1) (not-false _ (c .before .before .if2 .left)) in
+      let h = ending-small (c .before .before .before .some-ends .ensures .1) (not-false _ (c .before .before .if3 .left)) in
       let j = child-then r (getD (s .args .ends .now) (s .args .at + 1) 0) refl key in
       (omega (arith, s .pre .0, j .less), (omega (arith, h, m .fits h, m .same), ready-at r j))
 
   product-requires : start-lts.Need-product-requires (claims t) (start-at t) start.Post
   product-requires c κs =
-      let s = c .before .before .before .before .before .before .before .before .before .before .before .before .before .before .before .before .before .before in
+      let s = c .before .before .before .before .before .before .before .before .before .before .before .before .before .before .before .before .before .before .before in
       let r = s .pre .1 .1 in
       let key = sym (c .before .before .before .before .before .before .before .before .before .before .before .before .before .before .kind-of .ensures) ∙ c .before .before .before .before .before .before .before .before .before .before .before .before .before .match .keys8 in
       let k = child-sequence r key in
       let m = (made-need (s .args .base + roomFor (partAt (s .args .nodes .now) (s .args .at))) (c .before .before .before .before .before .before .before .before .before .before .before .start5 .ensures) (omega (arith, k .less))) in
-      let h = ending-small (c .before .before .before .before .before .before .before .some-ends .ensures .1) (not-false _ (c .before .before .before .before .before .before .if2 .left)) in
+      let h = ending-small (c .before .before .before .before .before .before .before .some-ends .ensures .1) (not-false _ (c .before .before .before .before .before .before .if3 .left)) in
       let j = child-then r (getD (s .args .ends .now) (s .args .at + 1) 0) refl key in
       beside m h (made-need (s .args .base + roomFor (partAt (s .args .nodes .now) (s .args .at))) (c .before .before .before .start6 .ensures) (omega (arith, j .less, h)))
 
   start-requires-7 : start-lts.Need-start-requires-7 (claims t) (start-at t) start.Post
   start-requires-7 c κs =
-      let s = c .before .before .before .before .before .before in
+      let s = c .before .before .before .before .before .before .before in
       let r = s .pre .1 .1 in
       let k = child-parallel r (sym (c .before .before .kind-of .ensures) ∙ c .before .match .keys9) in
       (omega (arith, s .pre .0, k .less), ((s .pre .1 .0), ready-at r k))
 
   above-requires-2 : start-lts.Need-above-requires-2 (claims t) (start-at t) start.Post
   above-requires-2 c κs =
-      let s = c .before .before .before .before .before .before .before .before .before .before in
+      let s = c .before .before .before .before .before .before .before .before .before .before .before in
       let k = child-parallel (s .pre .1 .1) (sym (c .before .before .before .before .before .before .kind-of .ensures) ∙ c .before .before .before .before .before .match .keys9) in
       let m = (made-need (s .args .base + roomFor (partAt (s .args .nodes .now) (s .args .at))) (c .before .before .before .start7 .ensures) (omega (arith, k .less))) in
       (omega (arith, (s .pre .1 .0), m .same), λ h. omega (arith, m .fits h, m .same))
 
   mul-start-3 : start-lts.Need-mul-start-3 (claims t) (start-at t) start.Post
   mul-start-3 c =
-      let s = c .before .before .before .before .before .before .before .before .before .before .before in
+      let s = c .before .before .before .before .before .before .before .before .before .before .before .before in
       let r = s .pre .1 .1 in
       omega (arith, place-few (ready-at r (child-parallel r (sym (c .before .before .before .before .before .before .before .kind-of .ensures) ∙ c .before .before .before .before .before .before .match .keys9))))
 
   element-copy-out-start-3 : start-lts.Need-element-copy-out-start-3 (claims t) (start-at t) start.Post
   element-copy-out-start-3 c =
-      let s = c .before .before .before .before .before .before .before .before .before .before .before in
+      let s = c .before .before .before .before .before .before .before .before .before .before .before .before in
       let r = s .pre .1 .1 in
       place-few (ready-at r (child-parallel r (sym (c .before .before .before .before .before .before .before .kind-of .ensures) ∙ c .before .before .before .before .before .before .match .keys9)))
 
   cast-start-3 : start-lts.Need-cast-start-3 (claims t) (start-at t) start.Post
   cast-start-3 c =
-      let s = c .before .before .before .before .before .before .before .before .before .before .before .before in
+      let s = c .before .before .before .before .before .before .before .before .before .before .before .before .before in
       let r = s .pre .1 .1 in
       omega (arith, place-few (ready-at r (child-beside r (getD (s .args .ends .now) (s .args .at + 1) 0) refl (sym (c .before .before .before .before .before .before .before .before .kind-of .ensures) ∙ c .before .before .before .before .before .before .before .match .keys9))))
 
   start-requires-8 : start-lts.Need-start-requires-8 (claims t) (start-at t) start.Post
   start-requires-8 c κs =
-      let s = c .before .before .before .before .before .before .before .before .before .before .before .before .before in
+      let s = c .before .before .before .before .before .before .before .before .before .before .before .before .before .before in
       let r = s .pre .1 .1 in
       let key = sym (c .before .before .before .before .before .before .before .before .before .kind-of .ensures) ∙ c .before .before .before .before .before .before .before .before .match .keys9 in
       let k = child-parallel r key in
@@ -293,7 +298,7 @@ module _ (t : ℕ) where
 
   together-requires : start-lts.Need-together-requires (claims t) (start-at t) start.Post
   together-requires c κs =
-      let s = c .before .before .before .before .before .before .before .before .before .before .before .before .before .before .before .before .before in
+      let s = c .before .before .before .before .before .before .before .before .before .before .before .before .before .before .before .before .before .before in
       let r = s .pre .1 .1 in
       let key = sym (c .before .before .before .before .before .before .before .before .before .before .before .before .before .kind-of .ensures) ∙ c .before .before .before .before .before .before .before .before .before .before .before .before .match .keys9 in
       let k = child-parallel r key in
@@ -303,7 +308,7 @@ module _ (t : ℕ) where
 
   start-requires-9 : start-lts.Need-start-requires-9 (claims t) (start-at t) start.Post
   start-requires-9 c κs =
-      let s = c .before .before .before .before .before .before in
+      let s = c .before .before .before .before .before .before .before in
       let r = s .pre .1 .1 in
       let k = child-loop r (sym (c .before .before .kind-of .ensures) ∙ c .before .match .keys10) in
       (omega (arith, s .pre .0, k .less), ((s .pre .1 .0), ready-at r k))
@@ -313,7 +318,7 @@ module _ (t : ℕ) where
 
   start-requires-10 : start-lts.Need-start-requires-10 (claims t) (start-at t) start.Post
   start-requires-10 c κs =
-      let s = c .before .before .before .before .before .before in
+      let s = c .before .before .before .before .before .before .before in
       let r = s .pre .1 .1 in
       let k = child-try r (sym (c .before .before .kind-of .ensures) ∙ c .before .match .keys11) in
       (omega (arith, s .pre .0, k .less), ((s .pre .1 .0), ready-at r k))
@@ -322,54 +327,54 @@ module _ (t : ℕ) where
   alter-requires-3 c κs = λ h. omega (arith, c .before .before .before .start10 .ensures .fits h, c .before .before .before .start10 .ensures .same)
 
   alone-requires-5 : start-lts.Need-alone-requires-5 (claims t) (start-at t) start.Post
-  alone-requires-5 c κs = (c .before .before .before .before .before .before .before .pre .1 .0)
+  alone-requires-5 c κs = (c .before .before .before .before .before .before .before .before .pre .1 .0)
 
   alone-requires-6 : start-lts.Need-alone-requires-6 (claims t) (start-at t) start.Post
-  alone-requires-6 c κs = (c .before .before .before .before .before .before .before .pre .1 .0)
-
-  returns-2 : start-lts.Need-returns-2 (claims t) (start-at t) start.Post
-  returns-2 c =
-      let s = c .before .before .before .before .before .before .before .before .before in
-      list-nothing (s .pre .1 .1) (s .args .assumed) (sym (c .before .before .before .before .before .kind-of .ensures) ∙ c .before .before .before .before .match .keys1) (c .before .before .alone .ensures)
-
-  same-length-2 : start-lts.Need-same-length-2 (claims t) (start-at t) start.Post
-  same-length-2 c = returns-2 c .same
+  alone-requires-6 c κs = (c .before .before .before .before .before .before .before .before .pre .1 .0)
 
   returns-3 : start-lts.Need-returns-3 (claims t) (start-at t) start.Post
   returns-3 c =
       let s = c .before .before .before .before .before .before .before .before .before .before in
-      list-pause (s .pre .1 .1) (s .args .assumed) (sym (c .before .before .before .before .before .before .kind-of .ensures) ∙ c .before .before .before .before .before .match .keys2) (c .before .before .before .before .before .before .before .operand-of .result) _ (c .before .before .before .before .before .before .before .operand-of .ensures) (c .before .before .before .singleton .ensures) (c .before .before .alone2 .ensures)
+      list-nothing (s .pre .1 .1) (s .args .assumed) (sym (c .before .before .before .before .before .kind-of .ensures) ∙ c .before .before .before .before .match .keys1) (c .before .before .alone .ensures)
 
-  same-length-3 : start-lts.Need-same-length-3 (claims t) (start-at t) start.Post
-  same-length-3 c = returns-3 c .same
+  same-length-2 : start-lts.Need-same-length-2 (claims t) (start-at t) start.Post
+  same-length-2 c = returns-3 c .same
 
   returns-4 : start-lts.Need-returns-4 (claims t) (start-at t) start.Post
   returns-4 c =
-      let s = c .before .before .before .before .before .before .before .before .before .before in
-      list-gotopause (s .pre .1 .1) (s .args .assumed) (sym (c .before .before .before .before .before .before .kind-of .ensures) ∙ c .before .before .before .before .before .match .keys3) (c .before .before .before .before .before .before .before .operand-of .result) _ (c .before .before .before .before .before .before .before .operand-of .ensures) (c .before .before .before .singleton2 .ensures) (c .before .before .alone3 .ensures)
+      let s = c .before .before .before .before .before .before .before .before .before .before .before in
+      list-pause (s .pre .1 .1) (s .args .assumed) (sym (c .before .before .before .before .before .before .kind-of .ensures) ∙ c .before .before .before .before .before .match .keys2) (c .before .before .before .before .before .before .before .operand-of .result) _ (c .before .before .before .before .before .before .before .operand-of .ensures) (c .before .before .before .singleton .ensures) (c .before .before .alone2 .ensures)
 
-  same-length-4 : start-lts.Need-same-length-4 (claims t) (start-at t) start.Post
-  same-length-4 c = returns-4 c .same
+  same-length-3 : start-lts.Need-same-length-3 (claims t) (start-at t) start.Post
+  same-length-3 c = returns-4 c .same
 
   returns-5 : start-lts.Need-returns-5 (claims t) (start-at t) start.Post
   returns-5 c =
-      let s = c .before .before .before .before .before .before .before .before .before in
-      list-emit (s .pre .1 .1) (s .args .assumed) (sym (c .before .before .before .before .before .kind-of .ensures) ∙ c .before .before .before .before .match .keys4) (c .before .before .before .before .before .before .operand-of .result) (c .before .before .before .before .before .before .operand-of .ensures) (c .before .before .emitted .ensures)
+      let s = c .before .before .before .before .before .before .before .before .before .before .before in
+      list-gotopause (s .pre .1 .1) (s .args .assumed) (sym (c .before .before .before .before .before .before .kind-of .ensures) ∙ c .before .before .before .before .before .match .keys3) (c .before .before .before .before .before .before .before .operand-of .result) _ (c .before .before .before .before .before .before .before .operand-of .ensures) (c .before .before .before .singleton2 .ensures) (c .before .before .alone3 .ensures)
 
-  same-length-5 : start-lts.Need-same-length-5 (claims t) (start-at t) start.Post
-  same-length-5 c = returns-5 c .same
+  same-length-4 : start-lts.Need-same-length-4 (claims t) (start-at t) start.Post
+  same-length-4 c = returns-5 c .same
 
   returns-6 : start-lts.Need-returns-6 (claims t) (start-at t) start.Post
   returns-6 c =
       let s = c .before .before .before .before .before .before .before .before .before .before in
-      list-exit (s .pre .1 .1) (s .args .assumed) (sym (c .before .before .before .before .before .before .kind-of .ensures) ∙ c .before .before .before .before .before .match .keys5) (c .before .before .before .before .before .before .before .operand-of .result) _ (c .before .before .before .before .before .before .before .operand-of .ensures) (c .before .before .before .exit-code .ensures) (c .before .before .alone4 .ensures)
+      list-emit (s .pre .1 .1) (s .args .assumed) (sym (c .before .before .before .before .before .kind-of .ensures) ∙ c .before .before .before .before .match .keys4) (c .before .before .before .before .before .before .operand-of .result) (c .before .before .before .before .before .before .operand-of .ensures) (c .before .before .emitted .ensures)
 
-  same-length-6 : start-lts.Need-same-length-6 (claims t) (start-at t) start.Post
-  same-length-6 c = returns-6 c .same
+  same-length-5 : start-lts.Need-same-length-5 (claims t) (start-at t) start.Post
+  same-length-5 c = returns-6 c .same
 
   returns-7 : start-lts.Need-returns-7 (claims t) (start-at t) start.Post
   returns-7 c =
-      let s = c .before .before .before .before .before .before .before .before .before .before .before .before .before .before .before .before .before .before .before .before .before .before .before .before .before in
+      let s = c .before .before .before .before .before .before .before .before .before .before .before in
+      list-exit (s .pre .1 .1) (s .args .assumed) (sym (c .before .before .before .before .before .before .kind-of .ensures) ∙ c .before .before .before .before .before .match .keys5) (c .before .before .before .before .before .before .before .operand-of .result) _ (c .before .before .before .before .before .before .before .operand-of .ensures) (c .before .before .before .exit-code .ensures) (c .before .before .alone4 .ensures)
+
+  same-length-6 : start-lts.Need-same-length-6 (claims t) (start-at t) start.Post
+  same-length-6 c = returns-7 c .same
+
+  returns-8 : start-lts.Need-returns-8 (claims t) (start-at t) start.Post
+  returns-8 c =
+      let s = c .before .before .before .before .before .before .before .before .before .before .before .before .before .before .before .before .before .before .before .before .before .before .before .before .before .before in
       let r = s .pre .1 .1 in
       let key = sym (c .before .before .before .before .before .before .before .before .before .before .before .before .before .before .before .before .before .before .before .before .before .kind-of .ensures) ∙ c .before .before .before .before .before .before .before .before .before .before .before .before .before .before .before .before .before .before .before .before .match .keys6 in
       let k = child-signal r key in
@@ -377,47 +382,47 @@ module _ (t : ℕ) where
       list-signal r (s .args .assumed) started key (c .before .before .before .before .before .before .before .before .before .before .before .before .before .before .before .before .before .before .before .before .before .before .operand-of .result) _ _ (c .before .before .before .before .before .before .before .before .before .before .before .before .before .before .before .before .before .before .before .before .before .before .operand-of .ensures) (c .before .before .before .before .before .before .before .before .before .before .before .before .before .before .before .before .before .before .before .with-number .ensures) (c .before .before .before .before .before .before .before .before .without .ensures) (joined m (c .before .before .before .before .before .before .before .before .before .above .ensures) (omega (arith, k .less)) _++_ (c .before .before .before .before .before .before .start2 .ensures) (λ h e. omega (arith, k .less)) (s .pre .1 .0) (c .before .before .either .ensures))
 
   same-length-7 : start-lts.Need-same-length-7 (claims t) (start-at t) start.Post
-  same-length-7 c = returns-7 c .same
-
-  returns-8 : start-lts.Need-returns-8 (claims t) (start-at t) start.Post
-  returns-8 c =
-      let s = c .before .before .before .before .before .before .before .before .before .before .before in
-      let r = s .pre .1 .1 in
-      let key = sym (c .before .before .before .before .before .before .before .kind-of .ensures) ∙ c .before .before .before .before .before .before .match .keys7 in
-      let k = child-present r key in
-      list-then r (s .args .assumed) (getD (s .args .ends .now) (s .args .at + 1) 0) refl key (c .before .before .before .before .before .before .before .before .operand-of .result) (c .before .before .before .before .before .before .before .before .operand-of .ensures) (sym (c .before .before .before .before .before .contains .ensures) ∙ c .before .before .before .before .if1 .taken) (made-need (s .args .base + roomFor (partAt (s .args .nodes .now) (s .args .at))) (c .before .before .start3 .ensures) (omega (arith, k .less)))
-
-  same-length-8 : start-lts.Need-same-length-8 (claims t) (start-at t) start.Post
-  same-length-8 c = returns-8 c .same
+  same-length-7 c = returns-8 c .same
 
   returns-9 : start-lts.Need-returns-9 (claims t) (start-at t) start.Post
   returns-9 c =
       let s = c .before .before .before .before .before .before .before .before .before .before .before .before in
       let r = s .pre .1 .1 in
-      let key = sym (c .before .before .before .before .before .before .before .before .kind-of .ensures) ∙ c .before .before .before .before .before .before .before .match .keys7 in
-      let k = child-else r (getD (s .args .ends .now) (s .args .at + 1) 0) refl key in
-      list-else r (s .args .assumed) (getD (s .args .ends .now) (s .args .at + 1) 0) refl key (c .before .before .before .before .before .before .before .before .before .operand-of .result) (c .before .before .before .before .before .before .before .before .before .operand-of .ensures) (sym (c .before .before .before .before .before .before .contains .ensures) ∙ c .before .before .before .before .before .if1 .left) (made-need (s .args .base + roomFor (partAt (s .args .nodes .now) (s .args .at))) (c .before .before .start4 .ensures) (omega (arith, k .less)))
+      let key = sym (c .before .before .before .before .before .before .before .kind-of .ensures) ∙ c .before .before .before .before .before .before .match .keys7 in
+      let k = child-present r key in
+      list-then r (s .args .assumed) (getD (s .args .ends .now) (s .args .at + 1) 0) refl key (c .before .before .before .before .before .before .before .before .operand-of .result) (c .before .before .before .before .before .before .before .before .operand-of .ensures) (sym (c .before .before .before .before .before .contains .ensures) ∙ c .before .before .before .before .if2 .taken) (made-need (s .args .base + roomFor (partAt (s .args .nodes .now) (s .args .at))) (c .before .before .start3 .ensures) (omega (arith, k .less)))
 
-  same-length-9 : start-lts.Need-same-length-9 (claims t) (start-at t) start.Post
-  same-length-9 c = returns-9 c .same
+  same-length-8 : start-lts.Need-same-length-8 (claims t) (start-at t) start.Post
+  same-length-8 c = returns-9 c .same
 
   returns-10 : start-lts.Need-returns-10 (claims t) (start-at t) start.Post
   returns-10 c =
-      let s = c .before .before .before .before .before .before .before .before .before .before .before .before .before .before .before .before .before .before .before .before .before in
+      let s = c .before .before .before .before .before .before .before .before .before .before .before .before .before in
+      let r = s .pre .1 .1 in
+      let key = sym (c .before .before .before .before .before .before .before .before .kind-of .ensures) ∙ c .before .before .before .before .before .before .before .match .keys7 in
+      let k = child-else r (getD (s .args .ends .now) (s .args .at + 1) 0) refl key in
+      list-else r (s .args .assumed) (getD (s .args .ends .now) (s .args .at + 1) 0) refl key (c .before .before .before .before .before .before .before .before .before .operand-of .result) (c .before .before .before .before .before .before .before .before .before .operand-of .ensures) (sym (c .before .before .before .before .before .before .contains .ensures) ∙ c .before .before .before .before .before .if2 .left) (made-need (s .args .base + roomFor (partAt (s .args .nodes .now) (s .args .at))) (c .before .before .start4 .ensures) (omega (arith, k .less)))
+
+  same-length-9 : start-lts.Need-same-length-9 (claims t) (start-at t) start.Post
+  same-length-9 c = returns-10 c .same
+
+  returns-11 : start-lts.Need-returns-11 (claims t) (start-at t) start.Post
+  returns-11 c =
+      let s = c .before .before .before .before .before .before .before .before .before .before .before .before .before .before .before .before .before .before .before .before .before .before in
       let r = s .pre .1 .1 in
       let key = sym (c .before .before .before .before .before .before .before .before .before .before .before .before .before .before .before .before .before .kind-of .ensures) ∙ c .before .before .before .before .before .before .before .before .before .before .before .before .before .before .before .before .match .keys8 in
       let k = child-sequence r key in
       let m = (made-need (s .args .base + roomFor (partAt (s .args .nodes .now) (s .args .at))) (c .before .before .before .before .before .before .before .before .before .before .before .before .before .before .start5 .ensures) (omega (arith, k .less))) in
-      let h = ending-small (c .before .before .before .before .before .before .before .before .before .before .some-ends .ensures .1) (not-false _ (c .before .before .before .before .before .before .before .before .before .if2 .left)) in
+      let h = ending-small (c .before .before .before .before .before .before .before .before .before .before .some-ends .ensures .1) (not-false _ (c .before .before .before .before .before .before .before .before .before .if3 .left)) in
       let j = child-then r (getD (s .args .ends .now) (s .args .at + 1) 0) refl key in
-      list-sequence r (s .args .assumed) (getD (s .args .ends .now) (s .args .at + 1) 0) refl key (followed-by m _ (c .before .before .before .before .before .before .before .before .before .before .some-ends .ensures) (not-false _ (c .before .before .before .before .before .before .before .before .before .if2 .left)) (made-need (s .args .base + roomFor (partAt (s .args .nodes .now) (s .args .at))) (c .before .before .before .before .before .before .start6 .ensures) (omega (arith, j .less, h))) (omega (arith, k .less)) (c .before .before .product .ensures))
+      list-sequence r (s .args .assumed) (getD (s .args .ends .now) (s .args .at + 1) 0) refl key (followed-by m _ (c .before .before .before .before .before .before .before .before .before .before .some-ends .ensures) (not-false _ (c .before .before .before .before .before .before .before .before .before .if3 .left)) (made-need (s .args .base + roomFor (partAt (s .args .nodes .now) (s .args .at))) (c .before .before .before .before .before .before .start6 .ensures) (omega (arith, j .less, h))) (omega (arith, k .less)) (c .before .before .product .ensures))
 
   same-length-10 : start-lts.Need-same-length-10 (claims t) (start-at t) start.Post
-  same-length-10 c = returns-10 c .same
+  same-length-10 c = returns-11 c .same
 
-  returns-11 : start-lts.Need-returns-11 (claims t) (start-at t) start.Post
-  returns-11 c =
-      let s = c .before .before .before .before .before .before .before .before .before .before .before .before .before .before .before .before .before .before .before .before in
+  returns-12 : start-lts.Need-returns-12 (claims t) (start-at t) start.Post
+  returns-12 c =
+      let s = c .before .before .before .before .before .before .before .before .before .before .before .before .before .before .before .before .before .before .before .before .before in
       let r = s .pre .1 .1 in
       let key = sym (c .before .before .before .before .before .before .before .before .before .before .before .before .before .before .before .before .kind-of .ensures) ∙ c .before .before .before .before .before .before .before .before .before .before .before .before .before .before .before .match .keys9 in
       let k = child-parallel r key in
@@ -426,45 +431,45 @@ module _ (t : ℕ) where
       list-parallel r (s .args .assumed) (getD (s .args .ends .now) (s .args .at + 1) 0) refl key (joined m (c .before .before .before .before .before .before .before .before .before .above2 .ensures) (omega (arith, k .less)) (product Parallel) (c .before .before .before .before .before .before .start8 .ensures) (λ h e. omega (arith, j .less)) (s .pre .1 .0) (c .before .before .together .ensures))
 
   same-length-11 : start-lts.Need-same-length-11 (claims t) (start-at t) start.Post
-  same-length-11 c = returns-11 c .same
+  same-length-11 c = returns-12 c .same
 
-  returns-12 : start-lts.Need-returns-12 (claims t) (start-at t) start.Post
-  returns-12 c =
-      let s = c .before .before .before .before .before .before .before .before .before .before .before .before .before in
+  returns-13 : start-lts.Need-returns-13 (claims t) (start-at t) start.Post
+  returns-13 c =
+      let s = c .before .before .before .before .before .before .before .before .before .before .before .before .before .before in
       let r = s .pre .1 .1 in
       let key = sym (c .before .before .before .before .before .before .before .before .before .kind-of .ensures) ∙ c .before .before .before .before .before .before .before .before .match .keys10 in
       let k = child-loop r key in
       list-loop r (s .args .assumed) key (altered Going (made-need (s .args .base + roomFor (partAt (s .args .nodes .now) (s .args .at))) (c .before .before .before .before .before .before .start9 .ensures) (omega (arith, k .less))) (c .before .before .alter2 .ensures))
 
   same-length-12 : start-lts.Need-same-length-12 (claims t) (start-at t) start.Post
-  same-length-12 c = returns-12 c .same
+  same-length-12 c = returns-13 c .same
 
-  returns-13 : start-lts.Need-returns-13 (claims t) (start-at t) start.Post
-  returns-13 c =
-      let s = c .before .before .before .before .before .before .before .before .before .before .before .before .before in
+  returns-14 : start-lts.Need-returns-14 (claims t) (start-at t) start.Post
+  returns-14 c =
+      let s = c .before .before .before .before .before .before .before .before .before .before .before .before .before .before in
       let r = s .pre .1 .1 in
       let key = sym (c .before .before .before .before .before .before .before .before .before .kind-of .ensures) ∙ c .before .before .before .before .before .before .before .before .match .keys11 in
       let k = child-try r key in
       list-try r (s .args .assumed) started key (altered Caught (made-need (s .args .base + roomFor (partAt (s .args .nodes .now) (s .args .at))) (c .before .before .before .before .before .before .start10 .ensures) (omega (arith, k .less))) (c .before .before .alter3 .ensures))
 
   same-length-13 : start-lts.Need-same-length-13 (claims t) (start-at t) start.Post
-  same-length-13 c = returns-13 c .same
-
-  returns-14 : start-lts.Need-returns-14 (claims t) (start-at t) start.Post
-  returns-14 c =
-      let s = c .before .before .before .before .before .before .before .before .before .before in
-      list-unused (s .pre .1 .1) (s .args .assumed) (subst (λ (z : ℕ). 10 < z) (c .before .before .before .before .before .before .kind-of .ensures) (no-kind (c .before .before .before .before .before .before .kind-of .result) (c .before .before .before .before .before .match .rest .0 .0 .0 .0 .0 .0 .0 .0 .0 .0 .1) (c .before .before .before .before .before .match .rest .0 .0 .0 .0 .0 .0 .0 .0 .0 .1) (c .before .before .before .before .before .match .rest .0 .0 .0 .0 .0 .0 .0 .0 .1) (c .before .before .before .before .before .match .rest .0 .0 .0 .0 .0 .0 .0 .1) (c .before .before .before .before .before .match .rest .0 .0 .0 .0 .0 .0 .1) (c .before .before .before .before .before .match .rest .0 .0 .0 .0 .0 .1) (c .before .before .before .before .before .match .rest .0 .0 .0 .0 .1) (c .before .before .before .before .before .match .rest .0 .0 .0 .1) (c .before .before .before .before .before .match .rest .0 .0 .1) (c .before .before .before .before .before .match .rest .0 .1) (c .before .before .before .before .before .match .rest .1))) (c .before .before .alone5 .ensures)
-
-  same-length-14 : start-lts.Need-same-length-14 (claims t) (start-at t) start.Post
-  same-length-14 c = returns-14 c .same
+  same-length-13 c = returns-14 c .same
 
   returns-15 : start-lts.Need-returns-15 (claims t) (start-at t) start.Post
   returns-15 c =
-      let s = c .before .before .before .before .before .before .before .before .before .before in
-      list-unused (s .pre .1 .1) (s .args .assumed) (let e = c .before .before .before .before .before .before .kind-of .ensures in omega (arith, c .before .before .before .before .if3 .left)) (c .before .before .alone6 .ensures)
+      let s = c .before .before .before .before .before .before .before .before .before .before .before in
+      list-unused (s .pre .1 .1) (s .args .assumed) (subst (λ (z : ℕ). 10 < z) (c .before .before .before .before .before .before .kind-of .ensures) (no-kind (c .before .before .before .before .before .before .kind-of .result) (c .before .before .before .before .before .match .rest .0 .0 .0 .0 .0 .0 .0 .0 .0 .0 .1) (c .before .before .before .before .before .match .rest .0 .0 .0 .0 .0 .0 .0 .0 .0 .1) (c .before .before .before .before .before .match .rest .0 .0 .0 .0 .0 .0 .0 .0 .1) (c .before .before .before .before .before .match .rest .0 .0 .0 .0 .0 .0 .0 .1) (c .before .before .before .before .before .match .rest .0 .0 .0 .0 .0 .0 .1) (c .before .before .before .before .before .match .rest .0 .0 .0 .0 .0 .1) (c .before .before .before .before .before .match .rest .0 .0 .0 .0 .1) (c .before .before .before .before .before .match .rest .0 .0 .0 .1) (c .before .before .before .before .before .match .rest .0 .0 .1) (c .before .before .before .before .before .match .rest .0 .1) (c .before .before .before .before .before .match .rest .1))) (c .before .before .alone5 .ensures)
+
+  same-length-14 : start-lts.Need-same-length-14 (claims t) (start-at t) start.Post
+  same-length-14 c = returns-15 c .same
+
+  returns-16 : start-lts.Need-returns-16 (claims t) (start-at t) start.Post
+  returns-16 c =
+      let s = c .before .before .before .before .before .before .before .before .before .before .before in
+      list-unused (s .pre .1 .1) (s .args .assumed) (let e = c .before .before .before .before .before .before .kind-of .ensures in omega (arith, c .before .before .before .before .if4 .left)) (c .before .before .alone6 .ensures)
 
   same-length-15 : start-lts.Need-same-length-15 (claims t) (start-at t) start.Post
-  same-length-15 c = returns-15 c .same
+  same-length-15 c = returns-16 c .same
 
 pub +start-spec : {M : Type 1} → statement M
 +start-spec =
@@ -474,6 +479,7 @@ pub +start-spec : {M : Type 1} → statement M
     (claims t)
     (start-at t)
     start.Post
+    (returns t)
     (mul-node t)
     (element-copy-out-node t)
     (operand-of-requires t)
@@ -503,7 +509,7 @@ pub +start-spec : {M : Type 1} → statement M
     (start-requires-5 t)
     (some-ends-requires t)
     (same-length t)
-    (returns t)
+    (returns-2 t)
     (mul-top t)
     (add-top t)
     (mul-start-2 t)
@@ -525,30 +531,30 @@ pub +start-spec : {M : Type 1} → statement M
     (alone-requires-5 t)
     (alone-requires-6 t)
     (same-length-2 t)
-    (returns-2 t)
-    (same-length-3 t)
     (returns-3 t)
-    (same-length-4 t)
+    (same-length-3 t)
     (returns-4 t)
-    (same-length-5 t)
+    (same-length-4 t)
     (returns-5 t)
-    (same-length-6 t)
+    (same-length-5 t)
     (returns-6 t)
-    (same-length-7 t)
+    (same-length-6 t)
     (returns-7 t)
-    (same-length-8 t)
+    (same-length-7 t)
     (returns-8 t)
-    (same-length-9 t)
+    (same-length-8 t)
     (returns-9 t)
-    (same-length-10 t)
+    (same-length-9 t)
     (returns-10 t)
-    (same-length-11 t)
+    (same-length-10 t)
     (returns-11 t)
-    (same-length-12 t)
+    (same-length-11 t)
     (returns-12 t)
-    (same-length-13 t)
+    (same-length-12 t)
     (returns-13 t)
-    (same-length-14 t)
+    (same-length-13 t)
     (returns-14 t)
-    (same-length-15 t)
+    (same-length-14 t)
     (returns-15 t)
+    (same-length-15 t)
+    (returns-16 t)
