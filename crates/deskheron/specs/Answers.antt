@@ -1,11 +1,11 @@
 -- What the entries for C leave behind their pointers, by the answer of the operation: the results, or what was there before
 -- where it refuses. The number that an entry returns is `refusalOf` of the answer.
 use mathlib.Core.Path.{_≡_}
+use mathlib.Core.Bool.{cond}
 use mathlib.Core.List.{List}
 use Prim.Native.Nat.{ℕ}
 use Rattle.reach.specs.declared.Reached.{Reached}
 use Rattle.reach.specs.declared.Reached.the-variants as reached
-use Rattle.reach.specs.CodeSets.{flagOf}
 use Rattle.list.specs.declared.Answer.{Answer}
 use Rattle.list.specs.declared.Answer.the-variants as listed
 use Rattle.list.specs.Answers.{Found, answerOf, refusalOf}
@@ -24,7 +24,7 @@ countAfter (Accepted n) old = n
 -- reach: whether s has 0, as 1 or 0; the labels of s; R; the number of rounds
 unfoldable pub startEndsAfter : Reached → ℕ → ℕ
 startEndsAfter (reached.Refused w) old = old
-startEndsAfter (reached.Found ends labels set rounds) old = flagOf ends
+startEndsAfter (reached.Found ends labels set rounds) old = cond ends 1 0
 
 unfoldable pub startLabelsAfter : Reached → ℕ → ℕ
 startLabelsAfter (reached.Refused w) old = old

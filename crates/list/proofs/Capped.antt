@@ -22,7 +22,7 @@ use Rattle.esterel.proofs.Listing.{Chain, follow-out, follow-left, follow-right
 use Rattle.esterel.proofs.Needed.{crowded-iff, crowded-step}
 use Rattle.esterel.proofs.Resuming.{derives-apart}
 use Rattle.area.specs.Area.{cap, collect}
-use Rattle.list.specs.Capped.{Capped, changeIn, joinIn, unionIn, followIn, besideIn, capped}
+use Rattle.list.specs.inner.Capped.{Capped, changeIn, joinIn, unionIn, followIn, besideIn, capped}
 
 -- none where b, else the list
 abbrev answer : Bool → List Reaction → Capped

@@ -20,8 +20,10 @@ use Rattle.area.specs.Area.{packed, row, rows}
 use Rattle.area.proofs.Rows.{rows-length, rows-mem}
 use Rattle.list.specs.declared.Answer.{Answer}
 use Rattle.list.specs.declared.Answer.the-variants as answer
-use Rattle.list.specs.Answers.{Found, refused, found, stateOf, reactionsOf, foundIn, fitted, answerOf, written, Finds}
-use Rattle.list.specs.Buffers.{emittedOf, codesOf, reachedOf, front, spread, Small, Delivered, DeliveredBytes}
+use Rattle.list.specs.Answers.{Found, refused, found, stateOf, reactionsOf, foundIn, fitted, answerOf, written}
+use Rattle.list.specs.inner.Finding.{Finds}
+use Rattle.list.specs.Buffers.{emittedOf, codesOf, reachedOf, front, spread, Delivered, DeliveredBytes}
+use Rattle.list.specs.inner.Finding.{Small}
 
 -- ---- refusals
 untouched : (old : List ℕ) → old ≡ front [] old

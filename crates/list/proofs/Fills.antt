@@ -13,7 +13,8 @@ use lib.Seq.{getD-set-same, getD-set-other, getD-append-add, getD-drop, ext-getD
 use Rattle.esterel.specs.Reactions.{Reaction}
 use Rattle.area.specs.Area.{packed, row, rows}
 use Rattle.area.proofs.Rows.{rows-length}
-use Rattle.list.specs.Buffers.{emittedOf, codesOf, reachedOf, front, bytes, spread, Spelt}
+use Rattle.list.specs.Buffers.{emittedOf, codesOf, reachedOf, front, bytes, spread}
+use Rattle.list.specs.inner.Finding.{Spelt}
 
 -- ---- in front of what was there
 getD-after : (xs ys : List ℕ) (i : ℕ) → length xs ≤ i → getD (xs ++ ys) i 0 ≡ getD ys (i - length xs) 0

@@ -13,8 +13,8 @@ use Rattle.esterel.specs.Listing.{Rising}
 use Rattle.area.specs.Area.{rows, Made}
 use Rattle.area.proofs.Rows.{rows-agree}
 use Rattle.area.proofs.Made.{made-as}
-use Rattle.list.specs.Capped.{Capped, capped}
-use Rattle.list.specs.Notes.{Copied}
+use Rattle.list.specs.inner.Capped.{Capped, capped}
+use Rattle.list.specs.inner.Notes.{Copied}
 use Rattle.list.specs.Answers.{stateOf}
 
 -- ---- the state of a mark

@@ -19,8 +19,8 @@ use Rattle.area.specs.Rules.{changed, change, joined as joined-one, joinedAll, 
 use Rattle.area.specs.Area.{rows, Made, Altered, Beside, Merged}
 use Rattle.area.proofs.Rows.{rows-agree}
 use Rattle.area.proofs.Made.{made-as, made-need, made-there}
-use Rattle.list.specs.Capped.{Capped, changeIn, joinIn, followIn}
-use Rattle.list.specs.Joins.{Above, Joined, Standing, Followed}
+use Rattle.list.specs.inner.Capped.{Capped, changeIn, joinIn, followIn}
+use Rattle.list.specs.inner.Joins.{Above, Joined, Standing, Followed}
 
 -- what was made after something else
 pub made-after : {a₀ a b : List ℕ} {base need more n r : ℕ} {v w : Capped} → Made a₀ a base need v n → Made a b base more w r → more ≤ need → Made a₀ b base need w r

@@ -19,8 +19,8 @@ use Rattle.table.specs.declared.Checked.the-variants as checked
 use Rattle.table.specs.Reading as reading
 use Rattle.table.specs.Reading.{Table, holds, tableOf, checkOf, nodesOf, kindOfNode, operandOf}
 use Rattle.table.specs.Writing.{node, nodes}
-use Rattle.table.specs.Loading.{loadedOf}
-use Rattle.table.specs.Places.{Placed, placed}
+use Rattle.table.specs.inner.Loading.{loadedOf}
+use Rattle.table.specs.inner.Places.{Placed, placed}
 use Rattle.table.proofs.Nodes.{kind-node, operand-node, length-nodes}
 use Rattle.table.proofs.Accepted.{accepted, check-refused}
 use Rattle.table.proofs.Loading.{load-accepted, placed-loaded}
@@ -28,9 +28,10 @@ use Rattle.area.specs.Area.{rows, Made}
 use Rattle.area.proofs.Rows.{rows-length}
 use Rattle.list.specs.declared.Answer.{Answer}
 use Rattle.list.specs.declared.Answer.the-variants as answer
-use Rattle.list.specs.Capped.{Capped, capped}
-use Rattle.list.specs.Notes.{placeAt, partAt, NestsFrom, Sound, Noted, Resumable}
-use Rattle.list.specs.Answers.{Found, refused, found, stateOf, reactionsOf, foundIn, answerOf, Finds}
+use Rattle.list.specs.inner.Capped.{Capped, capped}
+use Rattle.list.specs.inner.Notes.{placeAt, partAt, NestsFrom, Sound, Noted, Resumable}
+use Rattle.list.specs.Answers.{Found, refused, found, stateOf, reactionsOf, foundIn, answerOf}
+use Rattle.list.specs.inner.Finding.{Finds}
 use Rattle.list.proofs.Capped.{capped-is}
 
 never : (w : ℕ) (ts : List Reaction) → refused w ≡ found ts → ⊥

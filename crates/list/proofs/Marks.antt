@@ -11,9 +11,9 @@ use Rattle.sets.specs.Set.{only, _union_}
 use Rattle.esterel.specs.Statement.{Statement, nothing, pause, gotopause, emit, exit, signal, present, sequence, parallel, loop, try, pauses}
 use Rattle.esterel.specs.Listing.{nesting}
 use Rattle.table.specs.Reading.{kindOfNode, operandOf}
-use Rattle.table.specs.Places.{Placed, placed}
+use Rattle.table.specs.inner.Places.{Placed, placed}
 use Rattle.area.proofs.Sets.{only-word}
-use Rattle.list.specs.Notes.{endIn, placeAt, partAt, Whole, EndsFrom, NestsFrom, PausesFrom, Noted, Room, Wrote}
+use Rattle.list.specs.inner.Notes.{endIn, placeAt, partAt, Whole, EndsFrom, NestsFrom, PausesFrom, Noted, Room, Wrote}
 use Rattle.list.proofs.Nodes.{One, Two, before-end, is-nothing, is-pause, is-gotopause, is-emit, is-exit, is-signal, is-present, is-sequence, is-parallel, is-loop, is-try, is-unused}
 
 pub end-there : (ends : List ℕ) (at : ℕ) → at < length ends → endIn ends at ≡ getD ends at 0

@@ -10,9 +10,9 @@ use borrow.Author.Tests.{lt-ltb, le-ltb}
 use Rattle.esterel.specs.Statement.{Statement, nothing, pause, gotopause, emit, exit, signal, present, sequence, parallel, loop, try, size, depth}
 use Rattle.table.specs.Kinds.{Kind, kinds, kindOf}
 use Rattle.table.specs.Reading.{kindOfNode, operandOf}
-use Rattle.table.specs.Places.{Placed, placed, placeOne, placeTwo, placeKind, statementAt}
+use Rattle.table.specs.inner.Places.{Placed, placed, placeOne, placeTwo, placeKind, statementAt}
 use Rattle.table.proofs.Nodes.{depth-positive}
-use Rattle.list.specs.Notes.{placeAt, partAt, Whole}
+use Rattle.list.specs.inner.Notes.{placeAt, partAt, Whole}
 
 pub all-same : {A : Type 0} (a : A) (n j : ℕ) → getD (replicate n a) j a ≡ a
 all-same a zero j = refl

@@ -17,15 +17,15 @@ use Rattle.esterel.specs.Statement.{Statement, nothing, pause, gotopause, emit,
 use Rattle.esterel.specs.Reactions.{start, resumed, Reaction}
 use Rattle.esterel.specs.Listing.{reaction, one, onlyIf, list}
 use Rattle.table.specs.Reading.{kindOfNode, operandOf}
-use Rattle.table.specs.Places.{Placed, placed}
+use Rattle.table.specs.inner.Places.{Placed, placed}
 use Rattle.area.specs.declared.Change.the-variants.{Going}
 use Rattle.area.specs.declared.Pairing.the-variants.{Parallel}
 use Rattle.area.specs.Rules.{change, product}
 use Rattle.area.specs.Area.{packed, Made}
 use Rattle.area.proofs.Made.{made-as, made-need, made-empty}
-use Rattle.list.specs.Capped.{Capped, changeIn, joinIn, unionIn, followIn, besideIn, capped}
-use Rattle.list.specs.Notes.{placeAt, partAt, PausesFrom, Ready, Resumable}
-use Rattle.list.specs.Joins.{roomFor}
+use Rattle.list.specs.inner.Capped.{Capped, changeIn, joinIn, unionIn, followIn, besideIn, capped}
+use Rattle.list.specs.inner.Notes.{placeAt, partAt, PausesFrom, Ready, Resumable}
+use Rattle.list.specs.inner.Joins.{roomFor}
 use Rattle.list.proofs.Capped.{capped-is, apart-empty, apart-not-crowded}
 use Rattle.list.proofs.Nodes.{is-nothing, is-pause, is-gotopause, is-emit, is-exit, is-loop, is-unused}
 use Rattle.list.proofs.Joins.{going-is, together-is}

@@ -12,7 +12,7 @@ use Rattle.esterel.specs.Codes.{codeOf}
 use Rattle.esterel.specs.Reactions.{State, start, Reaction}
 use Rattle.esterel.specs.Listing.{reaction, one, onlyIf}
 use Rattle.table.specs.Reading.{kindOfNode, operandOf}
-use Rattle.table.specs.Places.{Placed, placed}
+use Rattle.table.specs.inner.Places.{Placed, placed}
 use Rattle.area.specs.declared.Change.the-variants.{Hide, Going, Caught}
 use Rattle.area.specs.declared.Pairing.the-variants.{Parallel}
 use Rattle.area.specs.Rules.{change, product}
@@ -20,9 +20,9 @@ use Rattle.area.specs.Area.{packed, Made}
 use Rattle.area.proofs.Sets.{only-word}
 use Rattle.area.proofs.Rows.{packed-made}
 use Rattle.area.proofs.Made.{made-as, made-need, made-empty}
-use Rattle.list.specs.Capped.{changeIn, joinIn, unionIn, followIn, capped}
-use Rattle.list.specs.Notes.{placeAt, partAt, Whole, EndsFrom, Ready}
-use Rattle.list.specs.Joins.{roomFor}
+use Rattle.list.specs.inner.Capped.{changeIn, joinIn, unionIn, followIn, capped}
+use Rattle.list.specs.inner.Notes.{placeAt, partAt, Whole, EndsFrom, Ready}
+use Rattle.list.specs.inner.Joins.{roomFor}
 use Rattle.list.proofs.Nodes.{One, Two, before-end, is-nothing, is-pause, is-gotopause, is-emit, is-exit, is-signal, is-present, is-sequence, is-parallel, is-loop, is-try, is-unused}
 use Rattle.list.proofs.Joins.{hide-is, going-is, caught-is, together-is}
 

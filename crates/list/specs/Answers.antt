@@ -10,7 +10,6 @@ use Rattle.esterel.specs.Reactions.{State, start, resumed, Reaction}
 use Rattle.esterel.specs.Listing.{listing, crowded, nesting}
 use Rattle.table.specs.Reading.{Table, tableOf}
 use Rattle.table.specs.Reading as table
-use Rattle.area.specs.Area.{rows}
 use Rattle.list.specs.declared.Answer.{Answer}
 use Rattle.list.specs.declared.Answer.the-variants.{Refused, Listed}
 
@@ -51,12 +50,6 @@ answerOf (found ts) = Listed (length ts)
 unfoldable pub written : Found → List Reaction
 written (refused w) = []
 written (found ts) = ts
-
--- the answer r, and the reactions in front of an area that was a and is b
-pub record Finds (v : Found) (r : Answer) (a b : List ℕ) : Type 0 where
-  pub answer : r ≡ answerOf v
-  pub same : length b ≡ length a
-  pub held : (ts : List Reaction) → v ≡ found ts → (rows b 0 (length ts) ≡ ts) × (length ts ≤ 64)
 
 -- document 01's number for an answer: the refusal, 0 where the count is given
 unfoldable pub refusalOf : Answer → ℕ

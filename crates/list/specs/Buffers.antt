@@ -31,17 +31,6 @@ unfoldable pub spread : ℕ → List ℕ → List ℕ
 spread w [] = []
 spread w (v ∷ vs) = bytes w v ++ spread w vs
 
--- the n reactions in front of an area emit no more than 32 signals
-abbrev pub Small : ℕ → List ℕ → Type 0
-Small n a = (i : ℕ) → i < n → getD a (2 * i) 0 / 256 < 2 ^ 32
-
--- a number was written at a place, in so many bytes, and nothing else was touched
-pub record Spelt (width value at : ℕ) (a b : List ℕ) : Type 0 where
-  pub same : length b ≡ length a
-  pub low : (i : ℕ) → i < at → getD b i 0 ≡ getD a i 0
-  pub there : (i : ℕ) → i < width → getD b (at + i) 0 ≡ getD (bytes width value) i 0
-  pub high : (i : ℕ) → at + width ≤ i → getD b i 0 ≡ getD a i 0
-
 -- the answer r, and the buffers from o, k, l to o′, k′, l′
 pub record Delivered (v : Found) (r : Answer) (o o′ k k′ l l′ : List ℕ) : Type 0 where
   pub answer : r ≡ answerOf v

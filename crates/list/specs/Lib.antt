@@ -1,5 +1,3 @@
-pub mod Capped
-pub mod Notes
-pub mod Joins
 pub mod Answers
 pub mod Buffers
+pub mod inner

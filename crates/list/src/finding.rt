@@ -9,11 +9,12 @@ ghost use mathlib.Core.Path.{_≡_};
 ghost use Prim.Native.Nat.{_+_, _*_, _≤_};
 ghost use lib.ListN.{length};
 ghost use Rattle.table.specs.Reading.{tableOf};
-ghost use Rattle.table.specs.Places.{statementAt};
+ghost use Rattle.table.specs.inner.Places.{statementAt};
 ghost use Rattle.area.specs.Area.{Made};
-ghost use Rattle.list.specs.Capped.{capped};
-ghost use Rattle.list.specs.Notes.{Sound, Resumable, Copied};
-ghost use Rattle.list.specs.Answers.{stateOf, reactionsOf, foundIn, Finds};
+ghost use Rattle.list.specs.inner.Capped.{capped};
+ghost use Rattle.list.specs.inner.Notes.{Sound, Resumable, Copied};
+ghost use Rattle.list.specs.Answers.{stateOf, reactionsOf, foundIn};
+ghost use Rattle.list.specs.inner.Finding.{Finds};
 
 // The reactions of the statement of marked nodes in the state of a mark and labels, as reacting leaves them. An area of 7,940
 // words is never too small.

@@ -6,7 +6,7 @@ ghost use mathlib.Core.Path.{_≡_};
 ghost use Prim.Native.Nat.{_+_, _≤_, _<_, min, max};
 ghost use lib.ListN.{length, getD};
 ghost use Rattle.sets.specs.Set.{_union_};
-ghost use Rattle.list.specs.Notes.{endIn, Room, Wrote, Noted};
+ghost use Rattle.list.specs.inner.Notes.{endIn, Room, Wrote, Noted};
 
 // Where the statement at a place ends.
 fn end_at(ends: &[u16], at: usize) -> usize

@@ -21,9 +21,9 @@ ghost use Rattle.area.specs.declared.Change.the-variants.{Going};
 ghost use Rattle.area.specs.declared.Pairing.the-variants.{Parallel};
 ghost use Rattle.area.specs.Rules.{change, product};
 ghost use Rattle.area.specs.Area.{packed, rows, Made, Beside};
-ghost use Rattle.list.specs.Capped.{changeIn, capped};
-ghost use Rattle.list.specs.Notes.{partAt, Ready, Resumable};
-ghost use Rattle.list.specs.Joins.{roomFor, Above, Joined, Standing, Followed};
+ghost use Rattle.list.specs.inner.Capped.{changeIn, capped};
+ghost use Rattle.list.specs.inner.Notes.{partAt, Ready, Resumable};
+ghost use Rattle.list.specs.inner.Joins.{roomFor, Above, Joined, Standing, Followed};
 
 // The set with one number more.
 fn with_number(set: u64, number: u8) -> u64

@@ -6,7 +6,8 @@ ghost use Prim.Native.Nat.{_+_, _*_, _/_, _≤_, _<_};
 ghost use lib.ListN.{length};
 ghost use Rattle.area.specs.Area.{rows};
 ghost use Rattle.list.specs.Answers.{found, fitted};
-ghost use Rattle.list.specs.Buffers.{emittedOf, codesOf, reachedOf, front, spread, Small, Spelt, Delivered, DeliveredBytes};
+ghost use Rattle.list.specs.Buffers.{emittedOf, codesOf, reachedOf, front, spread, Delivered, DeliveredBytes};
+ghost use Rattle.list.specs.inner.Finding.{Small, Spelt};
 
 fn fill_signals(area: &[u64], n: usize, o: &mut [u32])
     requires { ⌜ (2 * n ≤ length (now area)) × (n ≤ length (now o)) × Small n (now area) ⌝ }

@@ -17,15 +17,15 @@ use Rattle.table.specs.declared.Checked.{Checked}
 use Rattle.table.specs.declared.Checked.the-variants as checked
 use Rattle.table.specs.Reading as reading
 use Rattle.table.specs.Reading.{Table, refused, holds, tableOf, checkOf, nodesOf}
-use Rattle.table.specs.Loading.{loadedAfter, loadedOf}
-use Rattle.table.specs.Places.{Placed}
+use Rattle.table.specs.inner.Loading.{loadedAfter, loadedOf}
+use Rattle.table.specs.inner.Places.{Placed}
 use Rattle.table.proofs.Accepted.{accepted, check-accepted}
 use Rattle.table.proofs.Cutting.{length-nodesOf}
 use Rattle.table.proofs.Loading.{placed-loaded}
 use Rattle.reach.specs.declared.Reached.the-variants.{Refused, Found}
 use Rattle.reach.specs.declared.Settled.{Settled}
-use Rattle.reach.specs.CodeSets.{codesOf}
-use Rattle.reach.specs.Rounds.{statementOf, Sound, Reaches}
+use Rattle.reach.specs.inner.CodeSets.{codesOf}
+use Rattle.reach.specs.inner.Rounds.{statementOf, Sound, Reaches}
 use Rattle.reach.specs.Answers.{foundOf, answerOf, reachOf}
 
 -- ---- The buffer with the nodes of an accepted table

@@ -16,7 +16,7 @@ use Rattle.sets.proofs.Members.{has-union, bit}
 use Rattle.esterel.specs.Codes.{Codes, none, justEnded, justAt, justCode, join, minusZero, throughTry, hasLow, notBelow, noLowerThan}
 use Rattle.esterel.proofs.Codes.{join-none}
 use Rattle.reach.specs.declared.codes.CodeSet.{CodeSet}
-use Rattle.reach.specs.CodeSets.{codesOf, flagOf, followedBy}
+use Rattle.reach.specs.inner.CodeSets.{codesOf, flagOf, followedBy}
 
 abbrev pub words : ℕ → ℕ → CodeSet
 words l e = record { labels = l; exits = e }

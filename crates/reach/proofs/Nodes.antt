@@ -14,7 +14,7 @@ use Rattle.sets.proofs.Booleans.{by-cond}
 use Rattle.esterel.specs.Statement.{Statement}
 use Rattle.table.specs.Kinds.{Kind, kinds, kindOf, rowOf}
 use Rattle.table.specs.Reading.{kindOfNode, operandOf}
-use Rattle.table.specs.Places.{Placed, placed, placeKind, statementAt}
+use Rattle.table.specs.inner.Places.{Placed, placed, placeKind, statementAt}
 
 -- ---- A node that is there
 -- a node of kind k at a place, with some depth left for it

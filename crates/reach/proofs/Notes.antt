@@ -17,11 +17,11 @@ use Rattle.esterel.specs.Codes.{Codes, join, s, d}
 use Rattle.esterel.specs.Trimming.{canEnd}
 use Rattle.table.specs.Kinds.{kinds, kindOf, rowOf}
 use Rattle.table.specs.Reading.{kindOfNode, operandOf}
-use Rattle.table.specs.Places.{Placed, statementAt}
+use Rattle.table.specs.inner.Places.{Placed, statementAt}
 use Rattle.reach.specs.declared.summary.Summary.{Summary}
-use Rattle.reach.specs.CodeSets.{codesOf, flagOf}
-use Rattle.reach.specs.Summaries.{Summable, Summarised}
-use Rattle.reach.specs.Notes.{forChildren, Noted, openNote, Opens, Wrote, From, Opened, noteOf, secondOf, endsOf}
+use Rattle.reach.specs.inner.CodeSets.{codesOf, flagOf}
+use Rattle.reach.specs.inner.Summaries.{Summable, Summarised}
+use Rattle.reach.specs.inner.Notes.{forChildren, Noted, openNote, Opens, Wrote, From, Opened, noteOf, secondOf, endsOf}
 use Rattle.reach.proofs.CodeSets.{flag-small}
 use Rattle.reach.proofs.Nodes.{Node, follow, follow-forward, place-next, next-forward, next-within}
 

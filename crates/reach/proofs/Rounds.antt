@@ -22,11 +22,11 @@ use Rattle.esterel.specs.Reachability.{nextR, afterRounds, Reached, reach}
 use Rattle.esterel.proofs.Codes.{contains-none, contains-left, contains-right, join-cases, contains-minusZero, contains-throughTry, contains-throughTry⁺}
 use Rattle.esterel.proofs.Reachability.{d-union, d-mono, round-adds, reach-unique, afterRounds-pauses, afterRounds-grows}
 use Rattle.table.specs.Reading.{deepest}
-use Rattle.table.specs.Places.{Placed, statementAt}
+use Rattle.table.specs.inner.Places.{Placed, statementAt}
 use Rattle.reach.specs.declared.summary.Summary.{Summary}
-use Rattle.reach.specs.CodeSets.{followedBy}
-use Rattle.reach.specs.Summaries.{resumedFrom, Gathered, EndsAlone, Summarised}
-use Rattle.reach.specs.Rounds.{statementOf, Reaches}
+use Rattle.reach.specs.inner.CodeSets.{followedBy}
+use Rattle.reach.specs.inner.Summaries.{resumedFrom, Gathered, EndsAlone, Summarised}
+use Rattle.reach.specs.inner.Rounds.{statementOf, Reaches}
 use Rattle.reach.proofs.Summing.{d-followed, d-looped, d-outside}
 
 -- ---- A code of d over R comes from one label of R

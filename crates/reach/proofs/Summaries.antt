@@ -15,8 +15,8 @@ use Rattle.sets.proofs.Members.{has-empty, has-union, has-minus, has-only, has-
 use Rattle.sets.proofs.Counts.{count, count-without}
 use Rattle.esterel.specs.Codes.{Codes, join, minusZero, throughTry}
 use Rattle.reach.specs.declared.codes.CodeSet.{CodeSet}
-use Rattle.reach.specs.CodeSets.{codesOf}
-use Rattle.reach.specs.Summaries.{resumedFrom, Changed, Lowered, Gathered, outline}
+use Rattle.reach.specs.inner.CodeSets.{codesOf}
+use Rattle.reach.specs.inner.Summaries.{resumedFrom, Changed, Lowered, Gathered, outline}
 use Rattle.reach.proofs.CodeSets.{words, and-true, and-false}
 
 -- ---- Storing

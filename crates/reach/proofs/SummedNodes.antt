@@ -9,10 +9,10 @@ use Rattle.esterel.specs.Statement.{Statement, nothing, pause, gotopause, emit,
 use Rattle.esterel.specs.Codes.{Codes, codeOf, justEnded, justAt, justCode, join, minusZero, throughTry, maximum, s, d}
 use Rattle.table.specs.Kinds.{Kind, kinds, kindOf}
 use Rattle.table.specs.Reading.{operandOf}
-use Rattle.table.specs.Places.{Placed, placed, placeTwo, placeKind, statementAt}
+use Rattle.table.specs.inner.Places.{Placed, placed, placeTwo, placeKind, statementAt}
 use Rattle.reach.specs.declared.summary.Summary.{Summary}
-use Rattle.reach.specs.CodeSets.{codesOf}
-use Rattle.reach.specs.Summaries.{Changed, Lowered, outline, outlineOf, presentOutline, sequenceOutline, parallelOutline, Summable, Summarised}
+use Rattle.reach.specs.inner.CodeSets.{codesOf}
+use Rattle.reach.specs.inner.Summaries.{Changed, Lowered, outline, outlineOf, presentOutline, sequenceOutline, parallelOutline, Summable, Summarised}
 use Rattle.reach.proofs.Nodes.{Node, placed-node, placed-none, kind-unused}
 use Rattle.reach.proofs.Summing.{sum-none, sum-pause, sum-beside, sum-sequence, sum-signal, sum-loop, sum-try}
 

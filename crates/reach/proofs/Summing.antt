@@ -12,10 +12,10 @@ use Rattle.sets.proofs.Members.{has-empty, has-union, has-only, has-only-other}
 use Rattle.esterel.specs.Statement.{Statement, nothing, pause, gotopause, emit, exit, signal, present, sequence, parallel, loop, try, pauses}
 use Rattle.esterel.specs.Codes.{Codes, none, justEnded, justAt, join, minusZero, throughTry, s, d}
 use Rattle.esterel.proofs.Codes.{join-none, none-join, followed, s-sequence, d-sequence, d-loop}
-use Rattle.table.specs.Places.{Placed, placed}
+use Rattle.table.specs.inner.Places.{Placed, placed}
 use Rattle.reach.specs.declared.summary.Summary.{Summary}
-use Rattle.reach.specs.CodeSets.{codesOf, followedBy}
-use Rattle.reach.specs.Summaries.{resumedFrom, Changed, Lowered, Outline, outline, outlineOf, sequenceOutline, Summarised}
+use Rattle.reach.specs.inner.CodeSets.{codesOf, followedBy}
+use Rattle.reach.specs.inner.Summaries.{resumedFrom, Changed, Lowered, Outline, outline, outlineOf, sequenceOutline, Summarised}
 use Rattle.reach.proofs.CodeSets.{goes-on, stops, and-true, and-false}
 
 none-followed : (S : Codes) → followedBy none S ≡ none

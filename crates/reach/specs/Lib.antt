@@ -1,5 +1,2 @@
-pub mod CodeSets
-pub mod Summaries
-pub mod Notes
-pub mod Rounds
 pub mod Answers
+pub mod inner

@@ -4,7 +4,7 @@ use esterel::Label;
 ghost use mathlib.Core.Path.{_≡_};
 ghost use Prim.Native.Nat.{_≤_, _<_};
 ghost use Rattle.esterel.specs.Codes as set;
-ghost use Rattle.reach.specs.CodeSets.{codesOf, flagOf, followedBy};
+ghost use Rattle.reach.specs.inner.CodeSets.{codesOf, flagOf, followedBy};
 
 // The labels whose code 1 is in the set, and its other codes: bit 0 for code 0, and bit d for the code of an exit of
 // level d, since code 64 has no place of its own in 64 bits.

@@ -9,7 +9,7 @@ use table::Checked;
 ghost use mathlib.Core.Path.{_≡_};
 ghost use lib.ListN.{length};
 ghost use Rattle.reach.specs.Answers.{reachOf};
-ghost use Rattle.reach.specs.Rounds.{Sound, Ready, Reaches, Rests};
+ghost use Rattle.reach.specs.inner.Rounds.{Sound, Ready, Reaches, Rests};
 
 // What the rounds come to: the codes of the started statement, R, and the number of rounds.
 pub struct Settled {

@@ -1,6 +1,6 @@
 // What a walk over the nodes reads of their notes: each node with children has one, of its first or only child.
 ghost use mathlib.Core.Path.{_≡_};
-ghost use Rattle.reach.specs.Notes.{secondOf, endsOf};
+ghost use Rattle.reach.specs.inner.Notes.{secondOf, endsOf};
 
 // The place of a node's second child, from the node's note.
 pub fn second_place(note: u16) -> usize

@@ -10,10 +10,10 @@ ghost use Prim.Native.Nat.{_+_, _≤_, _<_};
 ghost use lib.ListN.{length, set};
 ghost use Rattle.sets.specs.Set.{only};
 ghost use Rattle.esterel.specs.Codes.{codeOf, justEnded, justAt, justCode, join, minusZero, throughTry};
-ghost use Rattle.table.specs.Places.{statementAt};
-ghost use Rattle.reach.specs.CodeSets.{codesOf};
-ghost use Rattle.reach.specs.Summaries.{resumedFrom, Changed, Lowered, Gathered, outline, outlineOf, presentOutline, sequenceOutline, parallelOutline, Summable, Summarised};
-ghost use Rattle.reach.specs.Notes.{Wrote, Opened};
+ghost use Rattle.table.specs.inner.Places.{statementAt};
+ghost use Rattle.reach.specs.inner.CodeSets.{codesOf};
+ghost use Rattle.reach.specs.inner.Summaries.{resumedFrom, Changed, Lowered, Gathered, outline, outlineOf, presentOutline, sequenceOutline, parallelOutline, Summable, Summarised};
+ghost use Rattle.reach.specs.inner.Notes.{Wrote, Opened};
 
 // The codes of the started statement, the labels of its pauses, those of them from which it can end, and the place after
 // its last node.

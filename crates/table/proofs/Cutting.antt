@@ -13,7 +13,7 @@ use lib.Pow.{shl-exact, pow-mono}
 use lib.Seq.{drop-cons, drop-drop, drop-length, drop-nil, drop-at, take-at, set-at, length-take-le, append-snoc, take-suc, take-all}
 use Rattle.table.specs.Bits.{bits, number, bitsOf, Below}
 use Rattle.table.specs.Reading.{lengthOf, editionOf, countOf, paddingOf, nodesFrom, nodesOf}
-use Rattle.table.specs.Loading.{wordAt, Front, Cut}
+use Rattle.table.specs.inner.Loading.{wordAt, Front, Cut}
 use Rattle.table.proofs.Bits.{length-bits, bits-split, bits-append, number-bits, number-below, below-cons, below-bitsOf, below-drop, below-take}
 
 -- ---- Words

@@ -16,7 +16,7 @@ use Rattle.table.specs.declared.Checked.{Checked}
 use Rattle.table.specs.declared.Checked.the-variants.{Refused, Accepted}
 use Rattle.table.specs.Reading.{lengthOf, editionOf, countOf, paddingOf, headerOf}
 use Rattle.table.specs.Bits.{Below}
-use Rattle.table.specs.Loading.{wordAt}
+use Rattle.table.specs.inner.Loading.{wordAt}
 use Rattle.table.proofs.Cutting.{cut-edition, cut-count, cut-padding, spare}
 
 pub never-accepted : (w n : ℕ) → Refused w ≡ Accepted n → ⊥

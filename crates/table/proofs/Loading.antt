@@ -9,9 +9,9 @@ use Rattle.esterel.specs.Statement.{Statement}
 use Rattle.table.specs.declared.Checked.{Checked}
 use Rattle.table.specs.declared.Checked.the-variants.{Refused, Accepted}
 use Rattle.table.specs.Reading.{Reading, refused, read, readFrom, headerOf, nodesOf, deepest, holds, wholeOf, tableAfter, tableOf, answerOf, checkOf}
-use Rattle.table.specs.Loading.{loadedAfter, loadedOf, Walked}
+use Rattle.table.specs.inner.Loading.{loadedAfter, loadedOf, Walked}
 use Rattle.table.specs.Writing.{nodes}
-use Rattle.table.specs.Places.{placed, statementAt}
+use Rattle.table.specs.inner.Places.{placed, statementAt}
 use Rattle.table.proofs.Cutting.{length-nodesOf}
 use Rattle.table.proofs.Accepted.{read-faithful, accepted, check-accepted}
 use Rattle.table.proofs.Places.{placed-front}

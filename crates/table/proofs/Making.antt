@@ -11,7 +11,8 @@ use Rattle.sets.proofs.Booleans.{by-cond}
 use Rattle.table.specs.declared.Row.{Row}
 use Rattle.table.specs.Kinds.{Kind, nothing, pause, gotopause, emit, exit, signal, present, sequence, parallel, loop, try, unused, kindOf, rowOf}
 use Rattle.table.specs.Reading.{kindOfNode, operandOf}
-use Rattle.table.specs.Writing.{node, inRange, nodeOf}
+use Rattle.table.specs.Writing.{node}
+use Rattle.table.specs.inner.Making.{inRange, nodeOf}
 use Rattle.table.proofs.Nodes.{kind-node, operand-node}
 
 pub record Orderly (row : Row) : Type 0 where

@@ -11,7 +11,8 @@ use lib.Arith.{digits-lt}
 use lib.Pow.{pow-add, shl-exact}
 use Rattle.table.specs.Bits.{bits, bytesFrom, bytesOf, Below}
 use Rattle.table.specs.Reading.{lengthOf}
-use Rattle.table.specs.Writing.{nodeBits, writeNodes, Gathered, Writable}
+use Rattle.table.specs.Writing.{nodeBits, writeNodes}
+use Rattle.table.specs.inner.Making.{Gathered, Writable}
 use Rattle.table.proofs.Fields.{nodeBits-append, length-writeNodes}
 use Rattle.table.proofs.Bits.{length-bits, bits-append, length-bytesFrom, bytesOf-append, bytesOf-field, getD-bytesFrom-field}
 

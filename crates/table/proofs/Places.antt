@@ -13,7 +13,7 @@ use Rattle.esterel.specs.Statement.{Statement, nothing, pause, gotopause, emit,
 use Rattle.table.specs.Kinds.{kinds, kindOf}
 use Rattle.table.specs.Reading.{nodesOf, deepest, holds, tableOf}
 use Rattle.table.specs.Writing.{node, nodes}
-use Rattle.table.specs.Places.{placed, placeOne, placeTwo, placeKind, statementAt}
+use Rattle.table.specs.inner.Places.{placed, placeOne, placeTwo, placeKind, statementAt}
 use Rattle.table.proofs.Nodes.{kind-node, operand-node, length-nodes, depth-positive}
 use Rattle.table.proofs.Accepted.{accepted}
 

@@ -13,7 +13,8 @@ use Rattle.sets.proofs.Members.{has-empty}
 use Rattle.esterel.specs.Statement.{Statement, nothing, pause, gotopause, emit, exit, signal, present, sequence, parallel, loop, try, pauses, size, depth, Valid}
 use Rattle.table.specs.Bits.{bits, Below}
 use Rattle.table.specs.Reading.{Reading, readFrom, lengthOf, headerOf, deepest, Table, holds, wholeOf, tableAfter, tableOf}
-use Rattle.table.specs.Writing.{node, nodes, Ranged, Allowed, Writable, nodeBits, writeNodes, write}
+use Rattle.table.specs.Writing.{node, nodes, Ranged, Allowed, nodeBits, writeNodes, write}
+use Rattle.table.specs.inner.Making.{Writable}
 use Rattle.table.proofs.Bits.{below-cons, below-append, below-bytesOf}
 use Rattle.table.proofs.Fields.{length-writeNodes, below-fields, headed-written, crowded-written, nodes-written, headed-accepted, nodes-again}
 use Rattle.table.proofs.Nodes.{length-nodes}

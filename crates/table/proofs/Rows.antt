@@ -5,7 +5,7 @@ use Prim.Native.Nat.{ℕ}
 use lib.ListN.{getD, List·getD-map}
 use Rattle.table.specs.declared.Row.{Row}
 use Rattle.table.specs.Kinds.{unused, kinds, kindOf, row, rowOf}
-use Rattle.table.specs.Loading.{unpacked, Rows}
+use Rattle.table.specs.inner.Loading.{unpacked, Rows}
 
 pub rows-are : (xs : List ℕ) → map unpacked xs ≡ map rowOf kinds → Rows xs
 unfolding Rows kindOf rowOf

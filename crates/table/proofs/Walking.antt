@@ -13,7 +13,7 @@ use Rattle.sets.specs.Set.{only, _union_}
 use Rattle.esterel.specs.Statement.{Statement, size}
 use Rattle.table.specs.Kinds.{kinds, kindOf, rowOf}
 use Rattle.table.specs.Reading.{Reading, refused, read, withOne, withTwo, readKind, readNode, readFrom, faultOf}
-use Rattle.table.specs.Loading.{Walked}
+use Rattle.table.specs.inner.Loading.{Walked}
 use Rattle.table.specs.Writing.{nodes}
 use Rattle.table.proofs.Nodes.{length-nodes}
 use Rattle.table.proofs.Faults.{fault-sound, fault-kind}

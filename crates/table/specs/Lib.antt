@@ -1,7 +1,6 @@
 pub mod Kinds
 pub mod Bits
 pub mod Reading
-pub mod Loading
 pub mod Writing
 pub mod Cases
-pub mod Places
+pub mod inner

@@ -3,7 +3,7 @@ use crate::Row;
 ghost use mathlib.Core.Path.{_≡_};
 ghost use Rattle.table.specs.Kinds.{kindOf, rowOf};
 ghost use Rattle.table.specs.Reading.{kindOfNode, operandOf};
-ghost use Rattle.table.specs.Loading.{unpacked, Rows};
+ghost use Rattle.table.specs.inner.Loading.{unpacked, Rows};
 
 // "Each kind fixes its operand's range and its children": by the number of the kind its largest operand, its smallest
 // operand and its children, a byte each.

@@ -16,7 +16,7 @@ ghost use lib.ListN.{length, take, drop};
 ghost use Rattle.sets.specs.Set.{has, only, _union_};
 ghost use Rattle.table.specs.Kinds.{kindOf, rowOf};
 ghost use Rattle.table.specs.Reading.{kindOfNode, lengthOf, headerOf, nodesOf, faultOf, readFrom, deepest, wholeOf, answerOf, checkOf, refusalOf};
-ghost use Rattle.table.specs.Loading.{Rows, wordAt, Cut, loadedOf, Walked};
+ghost use Rattle.table.specs.inner.Loading.{Rows, wordAt, Cut, loadedOf, Walked};
 
 // Two bytes as a number.
 fn word_at(table: &[u8], at: usize) -> u16

@@ -18,21 +18,21 @@ use Rattle.table.specs.declared.Checked.the-variants as checked
 use Rattle.table.specs.Bits.{Below}
 use Rattle.table.specs.Reading as reading
 use Rattle.table.specs.Reading.{Table, refused, holds, tableOf, checkOf, deepest}
-use Rattle.table.specs.Loading.{loadedOf}
-use Rattle.table.specs.Places.{Placed}
+use Rattle.table.specs.inner.Loading.{loadedOf}
+use Rattle.table.specs.inner.Places.{Placed}
 use Rattle.table.specs.Writing.{nodes, write, Allowed}
 use Rattle.table.proofs.Accepted.{accepted, check-accepted}
 use Rattle.table.proofs.Loading.{placed-loaded}
 use Rattle.table.proofs.Nodes.{length-nodes}
 use Rattle.table.proofs.RoundTrip.{below-nodes, valid-ranged, read-written}
-use Rattle.reach.specs.Rounds.{statementOf}
+use Rattle.reach.specs.inner.Rounds.{statementOf}
 use Rattle.reach.proofs.Answers.{loaded-statement, loaded-length}
 use Rattle.trim.specs.declared.work.Part.{Part}
 use Rattle.trim.specs.declared.Written.{Written}
 use Rattle.trim.specs.declared.Trimmed.{Trimmed}
 use Rattle.trim.specs.declared.Trimmed.the-variants.{Refused, Accepted}
 use Rattle.trim.specs.Answers.{writtenOf, answerFor, bufferAfter, bufferFor, answerOf, leftOf, trimOf, bufferOf}
-use Rattle.trim.specs.Root.{Tree, Ends, Fields, Finished}
+use Rattle.trim.specs.inner.Root.{Tree, Ends, Fields, Finished}
 
 -- ---- the buffer with the nodes of an accepted table
 

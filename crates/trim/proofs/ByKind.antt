@@ -18,17 +18,18 @@ use Rattle.esterel.specs.Statement.{Statement, nothing, pause, gotopause, emit,
 use Rattle.esterel.specs.Trimming.{isNothing, names, joinParts, canEnd, trimSignal, trim, endsAt}
 use Rattle.table.specs.Kinds.{Kind, kinds, kindOf, rowOf}
 use Rattle.table.specs.Reading.{operandOf}
-use Rattle.table.specs.Places.{Placed, placed, placeKind, statementAt}
-use Rattle.table.specs.Writing.{nodes, node, inRange, nodeOf}
+use Rattle.table.specs.inner.Places.{Placed, placed, placeKind, statementAt}
+use Rattle.table.specs.Writing.{nodes, node}
+use Rattle.table.specs.inner.Making.{inRange, nodeOf}
 use Rattle.table.proofs.Making.{in-range-same, nodeOf-same}
 use Rattle.trim.specs.declared.descent.Around.{Around}
 use Rattle.trim.specs.declared.work.Part.{Part}
-use Rattle.trim.specs.Levels.{levelOut, trimmedIn, startedIf, inGuard, inElse, inTry, placesIn, wrapIf, guardedIf}
-use Rattle.trim.specs.Notes.{keptOf}
-use Rattle.trim.specs.Parts.{nothingAt, Leaf, ExitReady, LeafPut, Wrapped, Joined, branchIf, presentIf, ElseClosed, PresentClosed, Caught, Ready, Done}
+use Rattle.trim.specs.inner.Levels.{levelOut, trimmedIn, startedIf, inGuard, inElse, inTry, placesIn, wrapIf, guardedIf}
+use Rattle.trim.specs.inner.Notes.{keptOf}
+use Rattle.trim.specs.inner.Parts.{nothingAt, Leaf, ExitReady, LeafPut, Wrapped, Joined, branchIf, presentIf, ElseClosed, PresentClosed, Caught, Ready, Done}
 use Rattle.trim.proofs.Parts.{has-signal, joins-sequence}
 use Rattle.trim.proofs.Trimming.{places-same, places-low, trimmed-pause, trimmed-gotopause, trimmed-emit, trimmed-exit, trimmed-signal, trimmed-sequence, trimmed-parallel, trimmed-loop, trimmed-present, trimmed-resumed, trimmed-try}
-use Rattle.reach.specs.Notes.{secondOf, endsOf}
+use Rattle.reach.specs.inner.Notes.{secondOf, endsOf}
 use Rattle.reach.proofs.Nodes.{Node, placed-node, placed-none, kind-unused}
 use Rattle.trim.proofs.Walk.{next-after}
 use Rattle.trim.proofs.Leaving.{ends-signal, ends-sequence, ends-parallel, ends-loop, ends-try, ends-branches}

@@ -12,7 +12,7 @@ use lib.Dec.{leb, eqb}
 use Rattle.sets.proofs.Booleans.{or-neither, differ-eqb}
 use Rattle.esterel.specs.Statement.{Statement, nothing, pause, gotopause, emit, exit, signal, present, sequence, parallel, loop, try, Valid}
 use Rattle.esterel.specs.Trimming.{isNothing, names, endsAt, shiftLevel, shiftExits}
-use Rattle.trim.specs.Levels.{mapLevel, mapExits}
+use Rattle.trim.specs.inner.Levels.{mapLevel, mapExits}
 
 -- ---- one level
 

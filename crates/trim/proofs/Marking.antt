@@ -18,16 +18,16 @@ use Rattle.esterel.specs.Codes.{s}
 use Rattle.esterel.specs.Trimming.{endsAt, canEnd, trim}
 use Rattle.table.specs.Kinds.{Kind, kinds, kindOf, rowOf}
 use Rattle.table.specs.Reading.{operandOf}
-use Rattle.table.specs.Places.{Placed, placed, placeKind, statementAt}
-use Rattle.reach.specs.CodeSets.{flagOf}
-use Rattle.reach.specs.Notes.{Noted, openNote, Opens, noteOf, secondOf, endsOf}
+use Rattle.table.specs.inner.Places.{Placed, placed, placeKind, statementAt}
+use Rattle.reach.specs.inner.CodeSets.{flagOf}
+use Rattle.reach.specs.inner.Notes.{Noted, openNote, Opens, noteOf, secondOf, endsOf}
 use Rattle.reach.proofs.Nodes.{Node, placed-node, placed-none, kind-unused, next-forward}
 use Rattle.reach.proofs.CodeSets.{flag-small}
 use Rattle.reach.proofs.Notes.{noted-node, noted-make, noted-none, noted-stay, second-note, ends-note}
 use Rattle.reach.proofs.Rounds.{ends-alone}
 use Rattle.trim.specs.declared.marks.Exits.{Exits}
-use Rattle.trim.specs.Notes.{tryNote, trimNote, TrimNote}
-use Rattle.trim.specs.Marking.{ExitsAre, exits, exitAt, eitherOf, exitsIf, inTurnOf, againOf, outsideOf, triedNote, completed, Marked, Marks}
+use Rattle.trim.specs.inner.Notes.{tryNote, trimNote, TrimNote}
+use Rattle.trim.specs.inner.Marking.{ExitsAre, exits, exitAt, eitherOf, exitsIf, inTurnOf, againOf, outsideOf, triedNote, completed, Marked, Marks}
 use Rattle.trim.proofs.Parts.{has-signal, has-or}
 use Rattle.trim.proofs.Leaving.{ends-signal, ends-sequence, ends-parallel, ends-loop, ends-try, ends-branches}
 

@@ -20,11 +20,12 @@ use Rattle.esterel.specs.Statement.{Statement, nothing, pause, gotopause, emit,
 use Rattle.esterel.specs.Trimming.{isNothing, names, joinParts}
 use Rattle.esterel.proofs.Trimming.{is-nothing}
 use Rattle.table.specs.Kinds.{kinds, kindOf, rowOf}
-use Rattle.table.specs.Writing.{nodes, node, inRange, nodeOf}
+use Rattle.table.specs.Writing.{nodes, node}
+use Rattle.table.specs.inner.Making.{inRange, nodeOf}
 use Rattle.table.proofs.Making.{nodeOf-same}
 use Rattle.trim.specs.declared.work.Part.{Part}
-use Rattle.trim.specs.Levels.{wrapIf, guardedIf}
-use Rattle.trim.specs.Parts.{part, partDepth, Puts, Stands, Made, Whole, nothingAt, Joins, LeafPut, Filled, Wrapped, Joined, ElseClosed, PresentClosed}
+use Rattle.trim.specs.inner.Levels.{wrapIf, guardedIf}
+use Rattle.trim.specs.inner.Parts.{part, partDepth, Puts, Stands, Made, Whole, nothingAt, Joins, LeafPut, Filled, Wrapped, Joined, ElseClosed, PresentClosed}
 use Rattle.trim.proofs.Dropped.{join-first, join-both}
 
 -- ---- lists written from their end

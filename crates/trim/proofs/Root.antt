@@ -15,22 +15,23 @@ use Rattle.esterel.specs.Reachability.{reach}
 use Rattle.esterel.specs.Trimming.{isNothing, trimmed}
 use Rattle.esterel.proofs.Validity.{valid-trimmed, size-trimmed}
 use Rattle.table.specs.Reading.{lengthOf, deepest}
-use Rattle.table.specs.Places.{statementAt}
-use Rattle.table.specs.Writing.{nodes, writeNodes, write, Writable}
+use Rattle.table.specs.inner.Places.{statementAt}
+use Rattle.table.specs.Writing.{nodes, writeNodes, write}
+use Rattle.table.specs.inner.Making.{Writable}
 use Rattle.table.proofs.Nodes.{length-nodes}
 use Rattle.table.proofs.Fields.{length-writeNodes}
 use Rattle.reach.specs.declared.Settled.{Settled}
-use Rattle.reach.specs.Rounds as rounds
-use Rattle.reach.specs.Rounds.{statementOf, Rests}
+use Rattle.reach.specs.inner.Rounds as rounds
+use Rattle.reach.specs.inner.Rounds.{statementOf, Rests}
 use Rattle.trim.specs.declared.descent.Around.{Around}
 use Rattle.trim.specs.declared.marks.Exits.{Exits}
 use Rattle.trim.specs.declared.work.Part.{Part}
 use Rattle.trim.specs.declared.Trimmed.the-variants.{Refused, Accepted}
-use Rattle.trim.specs.Levels.{levelOut, trimmedIn}
-use Rattle.trim.specs.Marking.{Marks}
-use Rattle.trim.specs.Parts.{part, Made, Filled, Ready, Done}
+use Rattle.trim.specs.inner.Levels.{levelOut, trimmedIn}
+use Rattle.trim.specs.inner.Marking.{Marks}
+use Rattle.trim.specs.inner.Parts.{part, Made, Filled, Ready, Done}
 use Rattle.trim.specs.Answers.{writtenOf, answerFor, bufferAfter, bufferFor}
-use Rattle.trim.specs.Root.{Tree, Ends, Fields, Finished}
+use Rattle.trim.specs.inner.Root.{Tree, Ends, Fields, Finished}
 use Rattle.trim.proofs.Levels.{map-closed}
 use Rattle.trim.proofs.Parts.{puts-length}
 

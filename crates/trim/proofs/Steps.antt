@@ -12,16 +12,16 @@ use Rattle.esterel.specs.Statement.{Statement, nothing, signal, present, sequen
 use Rattle.esterel.specs.Trimming.{joinParts, endsAt, canEnd, trim}
 use Rattle.table.specs.Kinds.{kinds, kindOf, rowOf}
 use Rattle.table.specs.Reading.{operandOf}
-use Rattle.table.specs.Places.{Placed, placed, placeKind, statementAt}
+use Rattle.table.specs.inner.Places.{Placed, placed, placeKind, statementAt}
 use Rattle.table.specs.Writing.{nodes}
 use Rattle.trim.specs.declared.descent.Around.{Around}
 use Rattle.trim.specs.declared.work.Part.{Part}
-use Rattle.trim.specs.Levels.{trimmedIn, wrapIf}
-use Rattle.reach.specs.Notes.{Noted, noteOf, secondOf, endsOf}
+use Rattle.trim.specs.inner.Levels.{trimmedIn, wrapIf}
+use Rattle.reach.specs.inner.Notes.{Noted, noteOf, secondOf, endsOf}
 use Rattle.reach.proofs.Nodes.{Node, placed-node, next-forward}
 use Rattle.reach.proofs.Notes.{noted-node, second-note, ends-note}
-use Rattle.trim.specs.Notes.{trimNote, TrimNote, keptOf}
-use Rattle.trim.specs.Parts.{part, Made, nothingAt, Leaf, Wraps, Joins, LeafPut, Wrapped, Joined, Branch, branchIf, presentIf, ElseClosed, PresentClosed, Caught, Ready, Done}
+use Rattle.trim.specs.inner.Notes.{trimNote, TrimNote, keptOf}
+use Rattle.trim.specs.inner.Parts.{part, Made, nothingAt, Leaf, Wraps, Joins, LeafPut, Wrapped, Joined, Branch, branchIf, presentIf, ElseClosed, PresentClosed, Caught, Ready, Done}
 use Rattle.trim.proofs.Parts.{puts-length, made-nothing}
 use Rattle.trim.proofs.Trimming.{Low, trimmed-places, trimmed-nothing}
 use Rattle.trim.proofs.Notes.{try-kept}

@@ -11,7 +11,7 @@ use Rattle.sets.specs.Set.{has}
 use Rattle.esterel.specs.Statement.{Statement, nothing, pause, gotopause, emit, exit, signal, present, sequence, parallel, loop, try}
 use Rattle.esterel.specs.Trimming.{isNothing, joinParts, names, endsAt, canEnd, trimLoop, trimSignal, trimPresent, trimTry, trim, shiftExits}
 use Rattle.trim.specs.declared.descent.Around.{Around}
-use Rattle.trim.specs.Levels.{mapExits, levelOut, trimmedIn, startedIf, inGuard, inElse, inTry, placesIn, wrapIf, guardedIf}
+use Rattle.trim.specs.inner.Levels.{mapExits, levelOut, trimmedIn, startedIf, inGuard, inElse, inTry, placesIn, wrapIf, guardedIf}
 use Rattle.trim.proofs.Levels.{map-nothing, map-names, map-same, map-raise, map-within, map-lower, within, level-in, level-leaves}
 use Rattle.trim.proofs.Dropped.{join-first, join-both, ending-something}
 

@@ -10,7 +10,7 @@ use lib.Dec.{leb}
 use lib.ListN.{length, getD}
 use Rattle.table.specs.Kinds.{kindOf, rowOf}
 use Rattle.table.specs.Reading.{kindOfNode, operandOf}
-use Rattle.table.specs.Places.{Placed, statementAt}
+use Rattle.table.specs.inner.Places.{Placed, statementAt}
 use Rattle.reach.proofs.Nodes.{Node, placed-node, place-next, follow-forward, next-forward}
 
 pub there : {left : ℕ} {nodes : List ℕ} {at k kind : ℕ} → left ≢ 0 → length nodes ≡ 1024 → leb 1024 at ≡ false → kind ≡ kindOfNode (getD nodes at 0) → kind ≡ k → Node left nodes at k

@@ -1,6 +1,2 @@
-pub mod Levels
-pub mod Notes
-pub mod Marking
-pub mod Parts
 pub mod Answers
-pub mod Root
+pub mod inner

@@ -9,10 +9,10 @@ ghost use mathlib.Core.Path.{_≡_};
 ghost use mathlib.Core.Bool.{_||_};
 ghost use Prim.Native.Nat.{_+_, _≤_, _<_};
 ghost use Rattle.sets.specs.Set.{has};
-ghost use Rattle.table.specs.Places.{statementAt};
-ghost use Rattle.trim.specs.Levels.{levelOut, startedIf, inElse, inTry, placesIn};
-ghost use Rattle.trim.specs.Notes.{keptOf};
-ghost use Rattle.trim.specs.Parts.{ExitReady, Ready, Done};
+ghost use Rattle.table.specs.inner.Places.{statementAt};
+ghost use Rattle.trim.specs.inner.Levels.{levelOut, startedIf, inElse, inTry, placesIn};
+ghost use Rattle.trim.specs.inner.Notes.{keptOf};
+ghost use Rattle.trim.specs.inner.Parts.{ExitReady, Ready, Done};
 
 // What stands around a statement that is trimmed: whether it may be started, the try statements of the source, and how
 // many try statements stand around it in the trimmed table.

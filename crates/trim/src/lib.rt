@@ -15,9 +15,9 @@ use work::Part;
 ghost use mathlib.Core.Path.{_≡_};
 ghost use lib.ListN.{length};
 ghost use Rattle.esterel.specs.Trimming.{trimmed};
-ghost use Rattle.reach.specs.Rounds.{statementOf};
+ghost use Rattle.reach.specs.inner.Rounds.{statementOf};
 ghost use Rattle.trim.specs.Answers.{trimOf, bufferOf};
-ghost use Rattle.trim.specs.Root.{Tree, Lent, Ends, Fields, Finished};
+ghost use Rattle.trim.specs.inner.Root.{Tree, Lent, Ends, Fields, Finished};
 
 // A trimmed table: its nodes, and its length in bytes.
 pub struct Written {

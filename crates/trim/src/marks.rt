@@ -5,7 +5,7 @@ use reach::pass;
 ghost use mathlib.Core.Path.{_≡_};
 ghost use Prim.Native.Nat.{_<_};
 ghost use lib.ListN.{length, getD, set};
-ghost use Rattle.trim.specs.Marking.{exits, exitAt, eitherOf, exitsIf, inTurnOf, againOf, outsideOf, triedNote, withResumed, completed, Marks};
+ghost use Rattle.trim.specs.inner.Marking.{exits, exitAt, eitherOf, exitsIf, inTurnOf, againOf, outsideOf, triedNote, withResumed, completed, Marks};
 
 // The exits that are left in a trimmed statement and end outside it, bit d for level d + 1: where the statement is only
 // resumed, and where it may be started.

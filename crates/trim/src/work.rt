@@ -4,8 +4,8 @@ ghost use mathlib.Core.Path.{_≡_};
 ghost use mathlib.Core.Bool.{cond};
 ghost use Prim.Native.Nat.{_-_, _≤_, _<_, max};
 ghost use lib.ListN.{length, set};
-ghost use Rattle.table.specs.Writing.{nodeOf};
-ghost use Rattle.trim.specs.Parts.{nothingAt, LeafPut, Filled, Wrapped, Joined, ElseClosed, PresentClosed};
+ghost use Rattle.table.specs.inner.Making.{nodeOf};
+ghost use Rattle.trim.specs.inner.Parts.{nothingAt, LeafPut, Filled, Wrapped, Joined, ElseClosed, PresentClosed};
 
 // A trimmed part in the work area: where its nodes begin, its depth, and the signals that its emits and presents name.
 pub struct Part {

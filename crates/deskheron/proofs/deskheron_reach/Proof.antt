@@ -1,16 +1,14 @@
 -- `deskheron::deskheron_reach` meets its contract, by cases of reach's answer.
 use mathlib.Core.Path.{_≡_, refl, sym, _∙_}
-use mathlib.Core.Bool.{Bool, true, false}
+use mathlib.Core.Bool.{Bool, true, false, cond}
 use mir.Val.{boolByte}
 use borrow.Author.Needs.{needs}
-use Rattle.reach.specs.CodeSets.{flagOf}
 use Rattle.reach.specs.Answers.{reachOf, refusalOf}
 use Rattle.deskheron.specs.Answers.{startEndsAfter, startLabelsAfter, reachedAfter, roundsAfter}
 use Rattle.deskheron.proofs.deskheron_reach.Statement.{statement}
 use Rattle.deskheron.proofs.deskheron_reach.Tie as tie
 
-flag-byte : (b : Bool) → boolByte b ≡ flagOf b
-unfolding flagOf
+flag-byte : (b : Bool) → boolByte b ≡ cond b 1 0
 flag-byte true = refl
 flag-byte false = refl
 

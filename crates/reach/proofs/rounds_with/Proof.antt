@@ -8,9 +8,9 @@ use Rattle.sets.specs.Set.{_union_}
 use Rattle.sets.proofs.Counts.{count}
 use Rattle.esterel.specs.Codes.{Codes, labels}
 use Rattle.table.specs.Reading.{deepest}
-use Rattle.table.specs.Places.{statementAt}
-use Rattle.reach.specs.CodeSets.{codesOf}
-use Rattle.reach.specs.Rounds.{statementOf}
+use Rattle.table.specs.inner.Places.{statementAt}
+use Rattle.reach.specs.inner.CodeSets.{codesOf}
+use Rattle.reach.specs.inner.Rounds.{statementOf}
 use Rattle.reach.proofs.Rounds.{Going, few-rounds, none-yet, goes-on, falls, rests}
 use Rattle.reach.proofs.rounds_with.Statement.{statement}
 use Rattle.reach.proofs.rounds_with.Tie as tie

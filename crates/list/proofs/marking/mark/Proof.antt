@@ -3,7 +3,7 @@ use native.Mathlib.Omega.{arith}
 use Prim.Native.Nat.{_≤_}
 use mathlib.Core.Path.{_≡_, refl, sym, _∙_}
 use lib.ListN.{length}
-use Rattle.list.specs.Notes.{Noted}
+use Rattle.list.specs.inner.Notes.{Noted}
 use Rattle.list.proofs.Marks.{no-notes, noted-as}
 use Rattle.list.proofs.marking.mark.Statement.{statement}
 use Rattle.list.proofs.marking.mark.Tie as tie

@@ -3,7 +3,7 @@ use Prim.Native.Nat.{ℕ, _+_, max}
 use mathlib.Core.Path.{ap, ap₂, _∙_}
 use lib.ListN.{getD}
 use Rattle.sets.specs.Set.{_union_}
-use Rattle.list.specs.Notes.{endIn}
+use Rattle.list.specs.inner.Notes.{endIn}
 use Rattle.list.proofs.Marks.{wrote-as}
 use native.Mathlib.Omega.{arith}
 use Rattle.list.proofs.marking.note_two.Statement.{statement}

@@ -10,8 +10,8 @@ use Rattle.area.specs.declared.Change.the-variants.{Hide, Caught}
 use Rattle.area.specs.declared.Pairing.the-variants.{Parallel}
 use Rattle.area.specs.Rules.{product}
 use Rattle.area.proofs.Made.{made-need, made-cramped}
-use Rattle.list.specs.Notes.{partAt}
-use Rattle.list.specs.Joins.{roomFor}
+use Rattle.list.specs.inner.Notes.{partAt}
+use Rattle.list.specs.inner.Joins.{roomFor}
 use Rattle.list.proofs.Nodes.{no-kind}
 use Rattle.list.proofs.Joins.{altered, beside-top, joined, standing, followed}
 use Rattle.list.proofs.Starts.{place-few, ready-at, child-signal, child-present, child-else, child-sequence, child-then, child-parallel, child-beside, child-loop, child-try, list-signal, list-try}

@@ -5,8 +5,8 @@ use Prim.Native.Nat.{_+_}
 use mathlib.Core.Path.{refl}
 use borrow.Author.Tests.{not-true, not-false}
 use Rattle.area.proofs.Made.{made-need}
-use Rattle.list.specs.Notes.{partAt}
-use Rattle.list.specs.Joins.{roomFor}
+use Rattle.list.specs.inner.Notes.{partAt}
+use Rattle.list.specs.inner.Joins.{roomFor}
 use Rattle.list.proofs.Joins.{altered, beside, followed-not, ending-small, followed-by, standing-made}
 use borrow.Author.Needs.{needs}
 use Rattle.list.proofs.reacting.follow_again.Statement.{statement}

@@ -1,5 +1,5 @@
 -- `codes::ends` meets its contract: 0 is the lowest bit.
-use Rattle.reach.specs.CodeSets.{codesOf}
+use Rattle.reach.specs.inner.CodeSets.{codesOf}
 use Rattle.reach.proofs.CodeSets.{has-low}
 use Rattle.reach.proofs.codes.ends.Statement.{statement}
 use Rattle.reach.proofs.codes.ends.Tie as tie

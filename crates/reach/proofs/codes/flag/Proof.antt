@@ -1,6 +1,6 @@
 -- `codes::flag` meets its contract.
 use native.Mathlib.Omega.{arith}
-use Rattle.reach.specs.CodeSets.{codesOf}
+use Rattle.reach.specs.inner.CodeSets.{codesOf}
 use Rattle.reach.proofs.CodeSets.{view-flag, flag-small}
 use Rattle.reach.proofs.codes.flag.Statement.{statement}
 use Rattle.reach.proofs.codes.flag.Tie as tie

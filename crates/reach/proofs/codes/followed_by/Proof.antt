@@ -1,7 +1,7 @@
 -- `codes::followed_by` meets its contract: by the test for 0.
 use mathlib.Core.Path.{sym, ap, _∙_}
 use Rattle.esterel.specs.Codes.{Codes, join}
-use Rattle.reach.specs.CodeSets.{codesOf}
+use Rattle.reach.specs.inner.CodeSets.{codesOf}
 use borrow.Author.Needs.{needs}
 use Rattle.reach.proofs.CodeSets.{goes-on, stops}
 use Rattle.reach.proofs.codes.followed_by.Statement.{statement}

@@ -1,7 +1,7 @@
 -- `codes::no_lower_than` meets its contract: by the lowest code of the second set.
 use mathlib.Core.Path.{sym, ap, _∙_}
 use Prim.Native.Nat.{ℕ}
-use Rattle.reach.specs.CodeSets.{codesOf}
+use Rattle.reach.specs.inner.CodeSets.{codesOf}
 use borrow.Author.Needs.{needs}
 use Rattle.reach.proofs.CodeSets.{words, all-kept, zero-dropped, exits-kept}
 use Rattle.reach.proofs.codes.no_lower_than.Statement.{statement}

@@ -2,7 +2,7 @@
 use mathlib.Core.Path.{sym, ap, ap₂, _∙_}
 use mathlib.Core.Bool.{_||_}
 use Rattle.sets.proofs.Members.{has-word}
-use Rattle.reach.specs.Notes.{endsOf}
+use Rattle.reach.specs.inner.Notes.{endsOf}
 use Rattle.reach.proofs.CodeSets.{has-low}
 use Rattle.reach.proofs.pass.can_end.Statement.{statement}
 use Rattle.reach.proofs.pass.can_end.Tie as tie

@@ -1,7 +1,7 @@
 -- `pass::second_place` meets its contract.
 use mathlib.Core.Path.{refl}
 use borrow.Author.Needs.{needs}
-use Rattle.reach.specs.Notes.{secondOf}
+use Rattle.reach.specs.inner.Notes.{secondOf}
 use Rattle.reach.proofs.pass.second_place.Statement.{statement}
 use Rattle.reach.proofs.pass.second_place.Tie as tie
 

@@ -10,7 +10,7 @@ use borrow.Author.Tests.{leb-true, leb-false}
 use Rattle.esterel.specs.Codes.{codeOf, justAt, justCode}
 use Rattle.table.specs.Kinds.{Kind, kinds, kindOf, rowOf}
 use Rattle.table.specs.Reading.{operandOf}
-use Rattle.reach.specs.Summaries.{outline, Summable}
+use Rattle.reach.specs.inner.Summaries.{outline, Summable}
 use Rattle.reach.proofs.Nodes.{Node, above-ten, kind-unused}
 use Rattle.reach.proofs.Notes.{open-none, open-leaf, open-one, open-two, found-same, room-notes, note-fits}
 use Rattle.reach.proofs.SummedNodes.{at-none, at-nothing, at-pause, at-gotopause, at-emit, at-exit, at-unused, exit-level, enter-signal, enter-loop, enter-try, at-signal, at-loop, at-try, present-splits, sequence-splits, parallel-splits, enter-first, enter-second, at-present, at-sequence, at-parallel}

@@ -3,7 +3,7 @@
 use mathlib.Core.Path.{ap, _∙_}
 use Rattle.sets.proofs.Counts.{count}
 use Rattle.esterel.specs.Codes.{Codes, join, minusZero}
-use Rattle.reach.specs.CodeSets.{codesOf}
+use Rattle.reach.specs.inner.CodeSets.{codesOf}
 use Rattle.reach.proofs.Summaries.{Walking, walk-begins, walk-falls, walk-on, walk-ends}
 use Rattle.reach.proofs.summary.follow_each.Statement.{statement}
 use Rattle.reach.proofs.summary.follow_each.Tie as tie

@@ -4,7 +4,7 @@ use Prim.Native.Nat.{ℕ, _+_, _*_}
 use native.Mathlib.Omega.{arith}
 use lib.ListN.{set}
 use borrow.Author.Needs.{needs}
-use Rattle.reach.specs.CodeSets.{codesOf}
+use Rattle.reach.specs.inner.CodeSets.{codesOf}
 use Rattle.reach.proofs.CodeSets.{flag-small}
 use Rattle.reach.proofs.summary.noted.Statement.{statement}
 use Rattle.reach.proofs.summary.noted.Tie as tie

@@ -3,7 +3,7 @@ use mathlib.Core.Path.{ap, _∙_}
 use native.Mathlib.Omega.{arith}
 use borrow.Author.Needs.{needs}
 use Rattle.esterel.specs.Codes.{codeOf, justCode}
-use Rattle.reach.specs.Summaries.{outlineOf}
+use Rattle.reach.specs.inner.Summaries.{outlineOf}
 use Rattle.reach.proofs.Summaries.{same-start}
 use Rattle.reach.proofs.summary.of_exit.Statement.{statement}
 use Rattle.reach.proofs.summary.of_exit.Tie as tie

@@ -1,6 +1,6 @@
 -- `summary::of_gotopause` meets its contract.
 use borrow.Author.Needs.{needs}
-use Rattle.reach.specs.Summaries.{outlineOf}
+use Rattle.reach.specs.inner.Summaries.{outlineOf}
 use Rattle.reach.proofs.Summaries.{same-start}
 use Rattle.reach.proofs.summary.of_gotopause.Statement.{statement}
 use Rattle.reach.proofs.summary.of_gotopause.Tie as tie

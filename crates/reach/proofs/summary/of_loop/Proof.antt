@@ -1,6 +1,6 @@
 -- `summary::of_loop` meets its contract.
 use borrow.Author.Needs.{needs}
-use Rattle.reach.specs.Summaries.{outlineOf}
+use Rattle.reach.specs.inner.Summaries.{outlineOf}
 use Rattle.reach.proofs.Summaries.{same-start, follow-same}
 use Rattle.reach.proofs.summary.of_loop.Statement.{statement}
 use Rattle.reach.proofs.summary.of_loop.Tie as tie

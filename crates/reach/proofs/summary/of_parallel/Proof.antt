@@ -1,7 +1,7 @@
 -- `summary::of_parallel` meets its contract.
 use borrow.Author.Needs.{needs}
 use Rattle.sets.specs.Set.{_union_}
-use Rattle.reach.specs.Summaries.{outlineOf, parallelOutline}
+use Rattle.reach.specs.inner.Summaries.{outlineOf, parallelOutline}
 use Rattle.reach.proofs.Summaries.{same-start}
 use Rattle.reach.proofs.summary.of_parallel.Statement.{statement}
 use Rattle.reach.proofs.summary.of_parallel.Tie as tie

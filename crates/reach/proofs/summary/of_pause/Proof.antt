@@ -2,7 +2,7 @@
 use mathlib.Core.Path.{_∙_}
 use borrow.Author.Needs.{needs}
 use Rattle.sets.proofs.Members.{only-fits}
-use Rattle.reach.specs.Summaries.{outlineOf}
+use Rattle.reach.specs.inner.Summaries.{outlineOf}
 use Rattle.reach.proofs.Summaries.{outline-own, changed-own}
 use Rattle.reach.proofs.summary.of_pause.Statement.{statement}
 use Rattle.reach.proofs.summary.of_pause.Tie as tie

@@ -1,7 +1,7 @@
 -- `summary::of_present` meets its contract.
 use borrow.Author.Needs.{needs}
 use Rattle.sets.specs.Set.{_union_}
-use Rattle.reach.specs.Summaries.{outlineOf, presentOutline}
+use Rattle.reach.specs.inner.Summaries.{outlineOf, presentOutline}
 use Rattle.reach.proofs.Summaries.{same-start}
 use Rattle.reach.proofs.summary.of_present.Statement.{statement}
 use Rattle.reach.proofs.summary.of_present.Tie as tie

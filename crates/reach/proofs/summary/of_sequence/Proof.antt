@@ -4,7 +4,7 @@ use mathlib.Core.Bool.{Bool, cond}
 use Prim.Native.Nat.{ℕ}
 use borrow.Author.Needs.{needs}
 use Rattle.sets.specs.Set.{_union_}
-use Rattle.reach.specs.Summaries.{outlineOf, sequenceOutline}
+use Rattle.reach.specs.inner.Summaries.{outlineOf, sequenceOutline}
 use Rattle.reach.proofs.Summaries.{same-outline}
 use Rattle.reach.proofs.summary.of_sequence.Statement.{statement}
 use Rattle.reach.proofs.summary.of_sequence.Tie as tie

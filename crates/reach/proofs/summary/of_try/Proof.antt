@@ -1,6 +1,6 @@
 -- `summary::of_try` meets its contract.
 use borrow.Author.Needs.{needs}
-use Rattle.reach.specs.Summaries.{outlineOf}
+use Rattle.reach.specs.inner.Summaries.{outlineOf}
 use Rattle.reach.proofs.Summaries.{same-start}
 use Rattle.reach.proofs.summary.of_try.Statement.{statement}
 use Rattle.reach.proofs.summary.of_try.Tie as tie

@@ -1,7 +1,7 @@
 -- `summary::read` meets its contract.
 use mathlib.Core.Path.{refl}
 use borrow.Author.Needs.{needs}
-use Rattle.reach.specs.Summaries.{resumedFrom}
+use Rattle.reach.specs.inner.Summaries.{resumedFrom}
 use Rattle.reach.proofs.summary.read.Statement.{statement}
 use Rattle.reach.proofs.summary.read.Tie as tie
 

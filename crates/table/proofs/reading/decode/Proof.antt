@@ -5,7 +5,7 @@ use Prim.Native.Nat.{ℕ, _+_, _-_, _%_, _≤_}
 use native.Mathlib.Omega.{arith}
 use lib.ListN.{length}
 use Rattle.table.specs.Reading.{lengthOf}
-use Rattle.table.specs.Loading.{Front, Cut}
+use Rattle.table.specs.inner.Loading.{Front, Cut}
 use Rattle.table.proofs.Cutting.{cut-none, cut-then, cut-all, length-cut}
 use Rattle.table.proofs.reading.decode.Statement.{statement}
 use Rattle.table.proofs.reading.decode.Tie as tie

@@ -6,7 +6,7 @@ use Prim.Native.Nat.{ℕ, _+_, _-_, _≤_, _<_}
 use native.Mathlib.Omega.{arith}
 use lib.ListN.{length, take, drop, length-drop}
 use lib.Seq.{getD-drop}
-use Rattle.table.specs.Writing.{Gathered}
+use Rattle.table.specs.inner.Making.{Gathered}
 use Rattle.table.proofs.Bits.{below-drop}
 use Rattle.table.proofs.Packing.{gathered-none, gathered-more}
 use Rattle.table.proofs.writing.gather.Statement.{statement}

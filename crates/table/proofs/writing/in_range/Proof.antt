@@ -1,6 +1,6 @@
 -- `table::writing::in_range` meets its contract: each return by the tests that led there.
 use borrow.Author.Tests.{lt-ltb, le-ltb}
-use Rattle.table.specs.Writing.{inRange}
+use Rattle.table.specs.inner.Making.{inRange}
 use Rattle.table.proofs.writing.in_range.Statement.{statement}
 use Rattle.table.proofs.writing.in_range.Tie as tie
 

@@ -5,7 +5,7 @@ use Prim.Native.Nat.{ℕ, _-_}
 use native.Mathlib.Omega.{arith}
 use lib.ListN.{length}
 use Rattle.table.specs.Reading.{lengthOf}
-use Rattle.table.specs.Writing.{Writable}
+use Rattle.table.specs.inner.Making.{Writable}
 use Rattle.table.proofs.Packing.{Written, written-none, written-start, written-from, written-more, written-all}
 use Rattle.table.proofs.writing.write_nodes.Statement.{statement}
 use Rattle.table.proofs.writing.write_nodes.Tie as tie

@@ -4,7 +4,7 @@ use mathlib.Core.Path.{_≡_, refl, ap, _∙_}
 use Prim.Native.Nat.{_%_, _^_}
 use mathlib.Core.Bool.{_||_}
 use Rattle.sets.specs.Set.{has, only}
-use Rattle.trim.specs.Levels.{levelOut}
+use Rattle.trim.specs.inner.Levels.{levelOut}
 use native.Mathlib.Omega.{arith}
 use denote.Ref.{now}
 use borrow.Author.Tests.{leb-false}

@@ -1,7 +1,7 @@
 -- `descent::in_try` meets its contract: the record that it makes is the one of the flag.
 use mathlib.Core.Path.{refl, sym, ap}
 use mathlib.Core.Bool.{Bool}
-use Rattle.trim.specs.Levels.{inTry}
+use Rattle.trim.specs.inner.Levels.{inTry}
 use borrow.Author.Needs.{needs}
 use Rattle.trim.proofs.descent.in_try.Statement.{statement}
 use Rattle.trim.proofs.descent.in_try.Tie as tie

@@ -4,7 +4,7 @@ use mathlib.Core.Path.{ap}
 use lib.Dec.{eqb}
 use lib.Bits.{and-mask}
 use Rattle.sets.specs.Set.{has}
-use Rattle.trim.specs.Notes.{keptOf}
+use Rattle.trim.specs.inner.Notes.{keptOf}
 use Rattle.trim.proofs.descent.keeps_try.Statement.{statement}
 use Rattle.trim.proofs.descent.keeps_try.Tie as tie
 

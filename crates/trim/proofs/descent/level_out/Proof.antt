@@ -2,7 +2,7 @@
 use native.Mathlib.Omega.{arith}
 use Prim.Native.Nat.{_+_, _-_}
 use mathlib.Core.Path.{refl}
-use Rattle.trim.specs.Levels.{levelOut}
+use Rattle.trim.specs.inner.Levels.{levelOut}
 use borrow.Author.Needs.{needs}
 use Rattle.trim.proofs.descent.level_out.Statement.{statement}
 use Rattle.trim.proofs.descent.level_out.Tie as tie

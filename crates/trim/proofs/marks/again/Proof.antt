@@ -2,7 +2,7 @@
 use Prim.Native.Nat.{ℕ}
 use mathlib.Core.Bool.{Bool}
 use mathlib.Core.Path.{ap, _∙_}
-use Rattle.trim.specs.Marking.{exits, exitsIf}
+use Rattle.trim.specs.inner.Marking.{exits, exitsIf}
 use borrow.Author.Needs.{needs}
 use Rattle.trim.proofs.marks.again.Statement.{statement}
 use Rattle.trim.proofs.marks.again.Tie as tie

@@ -1,7 +1,7 @@
 -- `marks::exit_at` meets its contract: level d + 1 has bit d.
 use Prim.Native.Nat.{ℕ, _/_}
 use mathlib.Core.Path.{ap}
-use Rattle.trim.specs.Marking.{exits}
+use Rattle.trim.specs.inner.Marking.{exits}
 use borrow.Author.Needs.{needs}
 use Rattle.trim.proofs.marks.exit_at.Statement.{statement}
 use Rattle.trim.proofs.marks.exit_at.Tie as tie

@@ -3,7 +3,7 @@ use Prim.Native.Nat.{ℕ}
 use mathlib.Core.Bool.{Bool}
 use mathlib.Core.Path.{ap, ap₂, _∙_}
 use lib.Bits.{bitOr}
-use Rattle.trim.specs.Marking.{exits, exitsIf}
+use Rattle.trim.specs.inner.Marking.{exits, exitsIf}
 use borrow.Author.Needs.{needs}
 use Rattle.trim.proofs.marks.in_turn.Statement.{statement}
 use Rattle.trim.proofs.marks.in_turn.Tie as tie

@@ -4,8 +4,8 @@ use mathlib.Core.Bool.{true, false}
 use Prim.Native.Nat.{ℕ, _+_, _*_, _/_, _%_}
 use native.Mathlib.Omega.{arith}
 use borrow.Author.Needs.{needs}
-use Rattle.reach.specs.CodeSets.{flagOf}
-use Rattle.trim.specs.Marking.{withResumed}
+use Rattle.reach.specs.inner.CodeSets.{flagOf}
+use Rattle.trim.specs.inner.Marking.{withResumed}
 use Rattle.trim.proofs.marks.with_resumed.Statement.{statement}
 use Rattle.trim.proofs.marks.with_resumed.Tie as tie
 

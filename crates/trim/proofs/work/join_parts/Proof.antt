@@ -1,6 +1,6 @@
 -- `work::join_parts` meets its contract, by which of the parts is nothing.
 use denote.Ref.{now}
-use Rattle.table.specs.Writing.{nodeOf}
+use Rattle.table.specs.inner.Making.{nodeOf}
 use Rattle.trim.proofs.Parts.{joined-first, joined-second, joined-put}
 use borrow.Author.Needs.{needs}
 use Rattle.trim.proofs.work.join_parts.Statement.{statement}

@@ -1,6 +1,6 @@
 -- `work::put_if` meets its contract, by the flag.
 use denote.Ref.{now}
-use Rattle.table.specs.Writing.{nodeOf}
+use Rattle.table.specs.inner.Making.{nodeOf}
 use Rattle.trim.proofs.Parts.{leaf-put, leaf-none}
 use borrow.Author.Needs.{needs}
 use Rattle.trim.proofs.work.put_if.Statement.{statement}

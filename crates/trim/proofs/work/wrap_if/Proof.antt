@@ -2,7 +2,7 @@
 use denote.Ref.{now}
 use native.Mathlib.Omega.{arith}
 use borrow.Author.Tests.{not-true, not-false}
-use Rattle.table.specs.Writing.{nodeOf}
+use Rattle.table.specs.inner.Making.{nodeOf}
 use Rattle.trim.proofs.Parts.{wrapped-not, wrapped-put}
 use borrow.Author.Needs.{needs}
 use Rattle.trim.proofs.work.wrap_if.Statement.{statement}

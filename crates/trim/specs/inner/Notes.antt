@@ -7,9 +7,9 @@ use lib.Dec.{eqb}
 use lib.ListN.{getD}
 use Rattle.sets.specs.Set.{has}
 use Rattle.esterel.specs.Trimming.{endsAt, trim}
-use Rattle.table.specs.Places.{Placed}
-use Rattle.reach.specs.CodeSets.{flagOf}
-use Rattle.reach.specs.Notes.{noteOf}
+use Rattle.table.specs.inner.Places.{Placed}
+use Rattle.reach.specs.inner.CodeSets.{flagOf}
+use Rattle.reach.specs.inner.Notes.{noteOf}
 
 -- the note of a try, of its body: the place after it, and whether an exit left in it ends at the try, with 0 and with 1
 unfoldable pub tryNote : ℕ → Placed → ℕ

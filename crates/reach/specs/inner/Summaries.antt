@@ -8,9 +8,9 @@ use lib.ListN.{length, getD}
 use Rattle.sets.specs.Set.{has, only, _union_}
 use Rattle.esterel.specs.Statement.{Statement, pauses, Valid}
 use Rattle.esterel.specs.Codes.{Codes, join, throughTry, maximum, s, d}
-use Rattle.table.specs.Places.{Placed, statementAt}
+use Rattle.table.specs.inner.Places.{Placed, statementAt}
 use Rattle.reach.specs.declared.summary.Summary.{Summary}
-use Rattle.reach.specs.CodeSets.{codesOf, followedBy}
+use Rattle.reach.specs.inner.CodeSets.{codesOf, followedBy}
 
 -- what is kept for a label: its labels at the label's place, its other codes 64 places on
 unfoldable pub resumedFrom : List ℕ → ℕ → Codes

@@ -7,9 +7,9 @@ use lib.ListN.{length, getD, drop}
 use Rattle.esterel.specs.Statement.{Statement, size, depth, Valid}
 use Rattle.table.specs.Reading.{deepest}
 use Rattle.table.specs.Bits.{Below}
-use Rattle.table.specs.Places.{statementAt}
+use Rattle.table.specs.inner.Places.{statementAt}
 use Rattle.table.specs.Writing.{nodes}
-use Rattle.reach.specs.Rounds.{statementOf}
+use Rattle.reach.specs.inner.Rounds.{statementOf}
 use Rattle.trim.specs.declared.work.Part.{Part}
 use Rattle.trim.specs.declared.Trimmed.{Trimmed}
 use Rattle.trim.specs.Answers.{answerFor, bufferFor}

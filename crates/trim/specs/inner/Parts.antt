@@ -9,12 +9,12 @@ use Rattle.sets.specs.Set.{has}
 use Rattle.esterel.specs.Statement.{Statement, nothing, present, sequence, depth, Valid}
 use Rattle.esterel.specs.Trimming.{isNothing, names, endsAt, joinParts, trim}
 use Rattle.table.specs.Writing.{nodes}
-use Rattle.table.specs.Places.{Placed, statementAt}
+use Rattle.table.specs.inner.Places.{Placed, statementAt}
 use Rattle.trim.specs.declared.descent.Around.{Around}
 use Rattle.trim.specs.declared.work.Part.{Part}
-use Rattle.trim.specs.Levels.{trimmedIn, wrapIf, guardedIf}
-use Rattle.reach.specs.Notes.{Noted}
-use Rattle.trim.specs.Notes.{TrimNote}
+use Rattle.trim.specs.inner.Levels.{trimmedIn, wrapIf, guardedIf}
+use Rattle.reach.specs.inner.Notes.{Noted}
+use Rattle.trim.specs.inner.Notes.{TrimNote}
 
 -- ---- what stands in the work area
 

@@ -8,11 +8,11 @@ use lib.Dec.{eqb}
 use lib.ListN.{length, getD}
 use Rattle.sets.specs.Set.{has, only}
 use Rattle.esterel.specs.Trimming.{endsAt, trim}
-use Rattle.table.specs.Places.{Placed, statementAt}
-use Rattle.reach.specs.CodeSets.{flagOf}
-use Rattle.reach.specs.Notes.{Noted, Opens, endsOf}
+use Rattle.table.specs.inner.Places.{Placed, statementAt}
+use Rattle.reach.specs.inner.CodeSets.{flagOf}
+use Rattle.reach.specs.inner.Notes.{Noted, Opens, endsOf}
 use Rattle.trim.specs.declared.marks.Exits.{Exits}
-use Rattle.trim.specs.Notes.{TrimNote}
+use Rattle.trim.specs.inner.Notes.{TrimNote}
 
 -- ---- the exits that are left in a trimmed statement
 

@@ -7,10 +7,10 @@ use Rattle.esterel.specs.Statement.{Statement, Valid}
 use Rattle.esterel.specs.Codes.{s}
 use Rattle.esterel.specs.Reachability.{reach}
 use Rattle.table.specs.Reading.{deepest}
-use Rattle.table.specs.Places.{statementAt}
+use Rattle.table.specs.inner.Places.{statementAt}
 use Rattle.reach.specs.declared.Settled.{Settled}
-use Rattle.reach.specs.CodeSets.{codesOf}
-use Rattle.reach.specs.Notes.{Noted, Opens}
+use Rattle.reach.specs.inner.CodeSets.{codesOf}
+use Rattle.reach.specs.inner.Notes.{Noted, Opens}
 
 -- the statement that nodes hold
 abbrev pub statementOf : List ℕ → Statement

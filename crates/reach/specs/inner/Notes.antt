@@ -8,10 +8,10 @@ use Rattle.sets.specs.Set.{has}
 use Rattle.esterel.specs.Codes.{s, d}
 use Rattle.table.specs.Kinds.{kindOf, rowOf}
 use Rattle.table.specs.Reading.{kindOfNode}
-use Rattle.table.specs.Places.{Placed, statementAt}
+use Rattle.table.specs.inner.Places.{Placed, statementAt}
 use Rattle.reach.specs.declared.summary.Summary.{Summary}
-use Rattle.reach.specs.CodeSets.{codesOf, flagOf}
-use Rattle.reach.specs.Summaries.{EndsAlone}
+use Rattle.reach.specs.inner.CodeSets.{codesOf, flagOf}
+use Rattle.reach.specs.inner.Summaries.{EndsAlone}
 
 -- by the number of children of a node
 abbrev pub forChildren : ℕ → Type 0 → Type 0 → Type 0 → Type 0

@@ -10,7 +10,7 @@ use Rattle.esterel.specs.Statement.{Statement, depth}
 use Rattle.esterel.specs.Reactions.{Reaction}
 use Rattle.esterel.specs.Listing.{Rising}
 use Rattle.area.specs.Area.{rows, Made, Merged}
-use Rattle.list.specs.Capped.{Capped, followIn}
+use Rattle.list.specs.inner.Capped.{Capped, followIn}
 
 -- so many words are enough to list a statement
 abbrev pub roomFor : Statement → ℕ

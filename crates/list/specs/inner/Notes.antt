@@ -9,7 +9,7 @@ use lib.ListN.{length, getD, set}
 use Rattle.esterel.specs.Statement.{Statement, pauses, size, depth}
 use Rattle.esterel.specs.Listing.{nesting}
 use Rattle.table.specs.Reading.{kindOfNode, operandOf}
-use Rattle.table.specs.Places.{Placed, statementAt}
+use Rattle.table.specs.inner.Places.{Placed, statementAt}
 
 -- where the statement at a place ends: past the nodes there is nothing
 unfoldable pub endIn : List ℕ → ℕ → ℕ
