@@ -1,17 +1,15 @@
 -- Each reaction of a list changed, in place: what is done never passes what is read.
 use mathlib.Core.Path.{_≡_, refl, sym, ap, _∙_, subst}
-use mathlib.Core.Bool.{Bool, true, false, cond, not, _||_}
+use mathlib.Core.Bool.{true, false}
 use mathlib.Core.List.{List, [], _∷_, _++_}
-use mathlib.Core.Option.{Option, some}
 use Prim.Native.Nat.{ℕ, zero, suc, _+_, _*_, _-_, _/_, _%_, _≤_, _<_}
 use native.Mathlib.Omega.{arith}
-use lib.Dec.{eqb}
 use lib.ListN.{length, getD}
 use borrow.Author.Tests.{eq-eqb, ne-eqb}
 use Rattle.sets.specs.Set.{has, _without_}
 use Rattle.esterel.specs.Codes.{through}
 use Rattle.esterel.specs.Reactions.{Reaction}
-use Rattle.esterel.specs.Listing.{Rising, reaction, one, onlyIf, each, sorted, someEnds}
+use Rattle.esterel.specs.Listing.{Rising, reaction, each, sorted, someEnds}
 use Rattle.area.specs.declared.Change.{Change}
 use Rattle.area.specs.declared.Change.the-variants.{Hide, Going, Caught}
 use Rattle.area.specs.Rules.{changed, change}

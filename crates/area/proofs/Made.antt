@@ -3,15 +3,15 @@
 use mathlib.Core.Path.{_≡_, refl, sym, ap, _∙_, subst}
 use mathlib.Core.List.{List, [], _∷_, _++_}
 use mathlib.Core.Option.{Option, none, some, Option·none-ne-some, Option·some-injective}
-use Prim.Native.Nat.{ℕ, zero, suc, _+_, _*_, _-_, _≤_, _<_}
+use Prim.Native.Nat.{ℕ, _+_, _*_, _-_, _≤_, _<_}
 use native.Mathlib.Omega.{arith}
 use native.Mathlib.Decide.{decLe}
 use lib.ListN.{length, getD}
 use Rattle.esterel.specs.Reactions.{Reaction}
 use Rattle.esterel.specs.Listing.{Listed, Rising, sorted}
 use Rattle.area.specs.Area.{packed, row, rows, cap, collect, Low, Made, Stored, Lowered}
-use Rattle.area.proofs.Members.{Same, same, same-as, same-sym, same-trans, same-append, same-swap, same-assoc, same-sorted, same-collected, sorted-equal, sorted-length, cap-some, cap-none}
-use Rattle.area.proofs.Rows.{rows-length, rows-none}
+use Rattle.area.proofs.Members.{Same, same, same-as, same-sym, same-trans, same-append, same-swap, same-assoc, same-sorted, sorted-equal, sorted-length, cap-some, cap-none}
+use Rattle.area.proofs.Rows.{rows-length}
 use Rattle.esterel.proofs.Order.{sorted-of-rising, append-left, append-right}
 
 -- ---- lists that were made

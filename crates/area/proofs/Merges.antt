@@ -1,17 +1,16 @@
 -- Two lists that lie one above the other made one, the smaller head first; putting needs no argument about the order.
 use mathlib.Core.Path.{_≡_, refl, sym, ap, _∙_, subst}
-use mathlib.Core.Bool.{Bool, true, false}
 use mathlib.Core.List.{List, [], _∷_, _++_, append-nil}
-use mathlib.Core.Option.{Option, none, some}
-use Prim.Native.Nat.{ℕ, zero, suc, _+_, _*_, _-_, _≤_, _<_}
+use mathlib.Core.Option.{some}
+use Prim.Native.Nat.{ℕ, _+_, _*_, _-_, _≤_, _<_}
 use native.Mathlib.Omega.{arith}
-use lib.ListN.{length, getD}
+use lib.ListN.{length}
 use Rattle.esterel.specs.Reactions.{Reaction}
-use Rattle.esterel.specs.Listing.{Rising, sorted}
+use Rattle.esterel.specs.Listing.{Rising}
 use Rattle.esterel.proofs.Order.{sorted-of-rising}
-use Rattle.area.specs.Area.{packed, row, rows, cap, collect, Made, Lowered, Beside, Merged}
+use Rattle.area.specs.Area.{row, rows, cap, collect, Made, Lowered, Beside, Merged}
 use Rattle.area.proofs.Members.{Same, same, same-as, same-sym, same-trans, same-append, same-swap, same-assoc, cap-some}
-use Rattle.area.proofs.Rows.{row-agree, rows-agree, rows-cons, rows-done, rows-whole, rows-none, rows-length}
+use Rattle.area.proofs.Rows.{row-agree, rows-cons, rows-done, rows-whole, rows-none, rows-length}
 use Rattle.area.proofs.Made.{made-as, made-need, made-there, made-cramped, made-down, made-lowered, Filling, filling-empty, filling-step, filling-over, filling-end}
 
 -- the head of the second list, taken out of the middle

@@ -1,7 +1,6 @@
 -- The loops that search an area and move its words.
 use mathlib.Core.Path.{_≡_, refl, sym, ap, _∙_, subst}
 use mathlib.Core.Bool.{Bool, true, false, not}
-use mathlib.Core.Logic.{_⊎_, inl, inr}
 use mathlib.Core.List.{List}
 use Prim.Native.Nat.{ℕ, _+_, _*_, _-_, _≤_, _<_}
 use native.Mathlib.Omega.{arith}
@@ -10,7 +9,7 @@ use lib.ListN.{length, getD, set, length-set}
 use lib.Seq.{getD-set-same, getD-set-other}
 use Rattle.esterel.specs.Reactions.{Reaction}
 use Rattle.esterel.specs.Listing.{before}
-use Rattle.area.specs.Area.{row, rows, Low, Stored, Lowered}
+use Rattle.area.specs.Area.{row, rows, Stored, Lowered}
 use Rattle.area.proofs.Rows.{rows-move}
 
 -- ---- the search from the end

@@ -1,22 +1,20 @@
 -- Products of lists that lie one above the other: two reactions as words, one with a whole list, all with a whole list.
 use mathlib.Core.Path.{_≡_, refl, sym, ap, _∙_, subst}
-use mathlib.Core.Bool.{Bool, true, false, cond}
 use mathlib.Core.Logic.{_⊎_, inl, inr}
 use mathlib.Core.List.{List, [], _∷_, _++_}
-use mathlib.Core.Option.{Option, none, some}
-use Prim.Native.Nat.{ℕ, zero, suc, _+_, _*_, _-_, _/_, _%_, _^_, _≤_, _<_, max}
+use mathlib.Core.Option.{some}
+use Prim.Native.Nat.{ℕ, _+_, _*_, _-_, _/_, _%_, _≤_, _<_, max}
 use native.Mathlib.Omega.{arith}
 use lib.Bits.{bitOr, or-shr}
-use lib.Dec.{eqb}
 use lib.ListN.{length, getD}
 use borrow.Author.Tests.{eq-eqb, ne-eqb}
 use Rattle.sets.specs.Set.{_union_}
 use Rattle.esterel.specs.Reactions.{Reaction, reachedTogether}
-use Rattle.esterel.specs.Listing.{Rising, reaction, one, each, insert, sorted, pair}
+use Rattle.esterel.specs.Listing.{Rising, reaction, each, insert, sorted, pair}
 use Rattle.area.specs.declared.Pairing.{Pairing}
 use Rattle.area.specs.declared.Pairing.the-variants.{Sequence, Parallel}
 use Rattle.area.specs.Rules.{joined, joinedAll, pairs, product}
-use Rattle.area.specs.Area.{packed, row, rows, cap, collect, Made, Put, Lowered}
+use Rattle.area.specs.Area.{packed, row, rows, collect, Made, Lowered}
 use Rattle.area.proofs.Members.{same-as, cap-some}
 use Rattle.area.proofs.Rows.{row-agree, rows-agree, rows-cons, rows-done, rows-whole, rows-one, packed-made}
 use Rattle.area.proofs.Made.{made-as, made-down, made-lowered, Filling, filling-start, filling-empty, filling-step, filling-over, filling-end}

@@ -1,16 +1,16 @@
 -- One more reaction put among rising ones: it is there, or there are 64 already, or a place was opened for it.
 use mathlib.Core.Path.{_≡_, refl, sym, ap, _∙_, subst}
 use mathlib.Core.Bool.{Bool, true, false, not}
-use mathlib.Core.List.{List, [], _∷_, _++_}
-use mathlib.Core.Option.{Option, none, some}
+use mathlib.Core.List.{List, _∷_, _++_}
+use mathlib.Core.Option.{Option, some}
 use Prim.Native.Nat.{ℕ, zero, suc, _+_, _*_, _-_, _≤_, _<_}
 use native.Mathlib.Omega.{arith}
 use lib.ListN.{length, getD, length-append}
 use Rattle.sets.proofs.Booleans.{clash}
 use Rattle.esterel.specs.Reactions.{Reaction}
-use Rattle.esterel.specs.Listing.{Listed, Before, Rising, before, insert, sorted}
+use Rattle.esterel.specs.Listing.{Listed, Rising, before, insert, sorted}
 use Rattle.esterel.proofs.Order.{sorted-of-rising, before-is, neither, insert-rising}
-use Rattle.area.specs.Area.{packed, row, rows, cap, collect, Low, Made, Put, Found, Opened, Stored}
+use Rattle.area.specs.Area.{packed, row, rows, cap, collect, Low, Put, Found, Opened, Stored}
 use Rattle.area.proofs.Members.{same-again, collect-same, cap-some, cap-none}
 use Rattle.area.proofs.Rows.{rows-move, rows-agree, rows-split, rows-length, rows-mem, rows-cons, rows-whole, insert-rows}
 

@@ -1,7 +1,7 @@
 -- Reactions in an area: the order by their words, reading them, and where one more belongs among rising ones.
 use mathlib.Core.Path.{_≡_, refl, sym, ap, _∙_, subst}
-use mathlib.Core.Bool.{Bool, true, false, cond, _&&_, _||_}
-use mathlib.Core.Logic.{_⊎_, inl, inr}
+use mathlib.Core.Bool.{Bool, true, false, _&&_, _||_}
+use mathlib.Core.Logic.{inl, inr}
 use mathlib.Core.List.{List, [], _∷_, _++_}
 use Prim.Native.Nat.{ℕ, zero, suc, _+_, _*_, _-_, _/_, _%_, _≤_, _<_}
 use native.Mathlib.Omega.{arith}
@@ -9,9 +9,8 @@ use native.Mathlib.Decide.{decLt}
 use lib.Dec.{ltb, eqb}
 use lib.ListN.{length, getD}
 use borrow.Author.Tests.{lt-ltb, le-ltb, eq-eqb, ne-eqb}
-use Rattle.sets.proofs.Booleans.{clash}
 use Rattle.esterel.specs.Reactions.{Reaction}
-use Rattle.esterel.specs.Listing.{Listed, Before, Rising, reaction, before, insert}
+use Rattle.esterel.specs.Listing.{Listed, Rising, reaction, before, insert}
 use Rattle.esterel.proofs.Order.{before-yes, before-is, before-trans, before-self}
 use Rattle.area.specs.Area.{packed, row, rows}
 

@@ -1,7 +1,7 @@
 -- Lists of reactions in a lent area of words. A reaction is two words: O * 256 + k, and L.
 use mathlib.Core.Path.{_≡_}
-use mathlib.Core.Bool.{Bool, true, false, cond}
-use mathlib.Core.List.{List, [], _∷_, _++_}
+use mathlib.Core.Bool.{true, false, cond}
+use mathlib.Core.List.{List, [], _∷_}
 use mathlib.Core.Option.{Option, none, some}
 use Prim.Native.Nat.{ℕ, zero, suc, _+_, _*_, _/_, _%_, _≤_, _<_}
 use lib.Dec.{ltb}
@@ -9,8 +9,7 @@ use lib.ListN.{length, getD}
 use Rattle.esterel.specs.Reactions.{Reaction}
 use Rattle.esterel.specs.Listing.{Rising, reaction, before, sorted}
 use Rattle.area.specs.declared.Change.{Change}
-use Rattle.area.specs.declared.Pairing.{Pairing}
-use Rattle.area.specs.Rules.{change, product}
+use Rattle.area.specs.Rules.{change}
 
 unfoldable pub packed : ℕ → ℕ → Reaction
 packed w l = reaction (w / 256) (w % 256) l

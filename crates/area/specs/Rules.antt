@@ -1,7 +1,6 @@
 -- How the lists of the children make the list of a statement, one reaction after the other, as the code goes about it.
-use mathlib.Core.Bool.{Bool, true, false, cond, not}
-use mathlib.Core.List.{List, [], _∷_}
-use Prim.Native.Nat.{ℕ}
+use mathlib.Core.Bool.{cond, not}
+use mathlib.Core.List.{List}
 use lib.Dec.{eqb}
 use Rattle.sets.specs.Set.{has, _union_, _without_}
 use Rattle.esterel.specs.Codes.{through}

@@ -6,13 +6,13 @@ ghost use mathlib.Core.Bool.{true, false, not};
 ghost use mathlib.Core.List.{[], _∷_, _++_};
 ghost use mathlib.Core.Option.{some};
 ghost use Prim.Native.Nat.{ℕ, _+_, _*_, _%_, _^_, _≤_, _<_, max};
-ghost use lib.ListN.{length, getD};
-ghost use Rattle.sets.specs.Set.{has, _without_};
+ghost use lib.ListN.{length};
+ghost use Rattle.sets.specs.Set.{_without_};
 ghost use Rattle.esterel.specs.Codes.{through};
 ghost use Rattle.esterel.specs.Reactions.{reachedTogether};
 ghost use Rattle.esterel.specs.Listing.{Rising, before, someEnds};
 ghost use Rattle.area.specs.Rules.{changed, joined, joinedAll, pairs, product as productOf};
-ghost use Rattle.area.specs.Area.{packed, row, rows, collect, Low, Made, Put, Found, Opened, Stored, Lowered, Altered, Beside, Merged};
+ghost use Rattle.area.specs.Area.{packed, row, rows, collect, Made, Put, Found, Opened, Stored, Lowered, Altered, Beside, Merged};
 
 // What a statement does with each reaction of its body: a local signal that is present, a loop, a try.
 pub enum Change {

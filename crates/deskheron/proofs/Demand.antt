@@ -1,10 +1,10 @@
 -- The third demand holds. Runs and listings are those of statements (crate esterel); what list gives of bytes is the listing of
 -- the statement that they hold, and what writing gives for the trimmed statement is read as that statement or refused.
 use mathlib.Core.Path.{_≡_, refl, sym, ap, _∙_, subst}
-use mathlib.Core.Logic.{_↔_, _≢_, _⊎_, inl, inr}
-use mathlib.Core.Bool.{Bool, true, false, cond, _||_}
+use mathlib.Core.Logic.{_↔_, _≢_, inl, inr}
+use mathlib.Core.Bool.{cond, _||_}
 use mathlib.Core.List.{List, [], _∷_, _++_, map}
-use Prim.Native.Nat.{ℕ, zero, suc, _*_, _≤_, _<_}
+use Prim.Native.Nat.{ℕ, zero, suc, _≤_, _<_}
 use native.Mathlib.Omega.{arith}
 use lib.Dec.{ltb}
 use lib.ListN.{length, take, drop, getD, length-map, List·getD-append, List·getD-map}
@@ -22,19 +22,17 @@ use Rattle.esterel.proofs.Validity.{valid-levels, valid-trimmed, size-trimmed}
 use Rattle.esterel.proofs.Runs.{same-runs}
 use Rattle.esterel.proofs.Indistinguishable.{same-listings}
 use Rattle.table.specs.Reading.{Table, tableOf, holds, deepest}
-use Rattle.table.specs.Writing.{Allowed, Ranged, write}
+use Rattle.table.specs.Writing.{write}
 use Rattle.table.proofs.Accepted.{Holds, accepted}
 use Rattle.table.proofs.RoundTrip.{valid-ranged, never-another, read-written}
 use Rattle.trim.specs.Answers.{trimOf, bufferOf, leftOf, bufferFor, bufferAfter, answerFor}
 use Rattle.trim.specs.Answers as trim
 use Rattle.trim.specs.declared.Written.{Written}
-use Rattle.trim.specs.declared.Trimmed.{Trimmed}
 use Rattle.trim.specs.declared.Trimmed.the-variants as trimmed-as
-use Rattle.list.specs.Answers.{Found, refused, found, stateOf, reactionsOf, foundIn, fitted, listOf, answerOf, written, refusalOf}
+use Rattle.list.specs.Answers.{Found, refused, found, stateOf, reactionsOf, foundIn, fitted, listOf, answerOf, written}
 use Rattle.list.specs.Buffers.{front, emittedOf, codesOf, reachedOf}
-use Rattle.list.specs.declared.Answer.{Answer}
 use Rattle.list.specs.declared.Answer.the-variants.{Refused, Listed}
-use Rattle.deskheron.specs.Demand.{Call, For, calledOn, standsAt, Stands, Indistinguishable, ThirdDemand}
+use Rattle.deskheron.specs.Demand.{Call, For, calledOn, standsAt, Stands, ThirdDemand}
 
 -- ---- a list by its places
 none : Reaction

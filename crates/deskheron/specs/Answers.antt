@@ -10,7 +10,6 @@ use Rattle.list.specs.declared.Answer.{Answer}
 use Rattle.list.specs.declared.Answer.the-variants as listed
 use Rattle.list.specs.Answers.{Found, answerOf, refusalOf}
 use Rattle.list.specs.Buffers.{DeliveredBytes}
-use Rattle.trim.specs.declared.Written.{Written}
 use Rattle.trim.specs.declared.Trimmed.{Trimmed}
 use Rattle.trim.specs.declared.Trimmed.the-variants as trimmed
 use Rattle.table.specs.declared.Checked.{Checked}

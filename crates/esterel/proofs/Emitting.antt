@@ -1,7 +1,7 @@
 -- A reaction emits only signals that are assumed: emit reacts only where its signal is, and a local signal is hidden.
-use mathlib.Core.Path.{_≡_, refl, sym, ap, _∙_, subst}
-use mathlib.Core.Logic.{_≢_, _⊎_, inl, inr}
-use mathlib.Core.Bool.{Bool, true, false, not, _&&_, _||_}
+use mathlib.Core.Path.{_≡_, sym, ap, _∙_, subst}
+use mathlib.Core.Logic.{_⊎_, inl, inr}
+use mathlib.Core.Bool.{true, not}
 use Prim.Native.Nat.{ℕ, _^_, _<_}
 use native.Mathlib.Decide.{decLt, ℕ-discrete}
 use native.Mathlib.Omega.{arith}
@@ -9,7 +9,7 @@ use Rattle.sets.specs.Set.{has, only, _union_, _minus_, _without_, Within}
 use Rattle.sets.proofs.Booleans.{or-cases, and-cases, clash}
 use Rattle.sets.proofs.Members.{has-empty, has-union, has-minus, has-only-equal, has-without-same, has-without-other, fits, past-width}
 use Rattle.esterel.specs.Statement.{Statement}
-use Rattle.esterel.specs.Reactions.{State, Derives, Reaction, Reacts}
+use Rattle.esterel.specs.Reactions.{State, Derives}
 use Rattle.esterel.specs.Reactions as rule
 
 none : (O E : ℕ) → O ≡ 0 → Within O E

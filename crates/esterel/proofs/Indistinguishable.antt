@@ -1,7 +1,7 @@
 -- At the start and in every state of a run, under every E, a statement and its trimmed form have the same listing: they have
 -- the same reactions there, and a listing is determined by its members.
 use mathlib.Core.Path.{_≡_}
-use mathlib.Core.List.{List, []}
+use mathlib.Core.List.{List}
 use Prim.Native.Nat.{ℕ}
 use Rattle.esterel.specs.Statement.{Statement, LevelsFromOne}
 use Rattle.esterel.specs.Trimming.{trimmed}

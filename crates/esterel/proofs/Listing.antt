@@ -1,21 +1,20 @@
 -- The listing of a state holds the reactions that Figure 3 derives, and no others; so statements with the same reactions
 -- in a state have the same listing of it.
-use mathlib.Core.Path.{_≡_, refl, sym, ap, ap₂, _∙_, subst}
+use mathlib.Core.Path.{_≡_, refl, sym, ap, _∙_, subst}
 use mathlib.Core.Logic.{_↔_, _≢_, _⊎_, inl, inr}
-use mathlib.Core.Bool.{Bool, true, false, not, _&&_, _||_, cond}
-use mathlib.Core.List.{List, [], _∷_, _++_}
-use Prim.Native.Nat.{ℕ, _<_, max}
-use native.Mathlib.Decide.{ℕ-discrete}
+use mathlib.Core.Bool.{true, not, cond}
+use mathlib.Core.List.{List, [], _++_}
+use Prim.Native.Nat.{ℕ, max}
 use native.Mathlib.Omega.{arith}
 use lib.Dec.{eqb}
-use Rattle.sets.specs.Set.{has, only, _union_, _intersect_, _without_, Apart}
+use Rattle.sets.specs.Set.{has, only, _union_, _intersect_, _without_}
 use Rattle.sets.proofs.Booleans.{clash, by-cond, eqb-equal, eqb-differ, differ-eqb}
 use Rattle.sets.proofs.Members.{apart-test, test-apart}
 use Rattle.esterel.specs.Statement.{Statement, nothing, pause, gotopause, emit, exit, signal, present, sequence, parallel, loop, try, pauses}
 use Rattle.esterel.specs.Codes.{codeOf, through}
 use Rattle.esterel.specs.Reactions.{State, start, resumed, reachedTogether, Derives, Reaction, Reacts}
 use Rattle.esterel.specs.Reactions as rule
-use Rattle.esterel.specs.Listing.{Listed, Before, Rising, IsListing, reaction, sorted, one, onlyIf, each, hide, follow, pair, together, going, caught, list}
+use Rattle.esterel.specs.Listing.{Listed, Rising, IsListing, reaction, one, onlyIf, each, hide, follow, pair, together, going, caught, list}
 use Rattle.esterel.proofs.Order.{append-left, append-right, append-cases, each-in, each-out, onlyIf-in, onlyIf-out, one-out, same-reaction, sorted-in, sorted-out, sorted-rising, same-list}
 use Rattle.esterel.proofs.Soundness.{reached-empty}
 

@@ -2,7 +2,7 @@
 -- down as far as the statement is deep meets them all.
 use mathlib.Core.Path.{_≡_, refl, sym, ap, _∙_}
 use mathlib.Core.Logic.{_↔_, _⊎_, inl, inr}
-use mathlib.Core.Bool.{Bool, true, false, _||_, cond}
+use mathlib.Core.Bool.{Bool, true, _||_, cond}
 use mathlib.Core.List.{List, [], _∷_}
 use Prim.Native.Nat.{ℕ, zero, suc, _≤_, _<_, max}
 use native.Mathlib.Omega.{arith}
@@ -11,7 +11,7 @@ use lib.ListN.{length}
 use Rattle.sets.specs.Set.{has, only, _union_, _without_}
 use Rattle.sets.proofs.Booleans.{or-left, or-right, or-cases, by-cond, clash, same-bool}
 use Rattle.esterel.specs.Statement.{Statement, nothing, pause, gotopause, emit, exit, signal, present, sequence, parallel, loop, try, depth}
-use Rattle.esterel.specs.Reactions.{State, start, resumed, Reaction}
+use Rattle.esterel.specs.Reactions.{State, start, resumed}
 use Rattle.esterel.specs.Listing.{Listed, list, Request, request, needs, someEnds, Crowded, own, child, some, crowdedWithin, crowded}
 use Rattle.esterel.proofs.Order.{ltb-yes, ltb-lt}
 

@@ -1,6 +1,6 @@
 -- Lists of reactions: what stands in a list, the order, sorting, and that a rising list is determined by its members.
-use mathlib.Core.Path.{_≡_, refl, sym, ap, ap₂, _∙_, subst}
-use mathlib.Core.Logic.{_↔_, _≢_, _⊎_, inl, inr}
+use mathlib.Core.Path.{_≡_, refl, sym, ap₂, _∙_, subst}
+use mathlib.Core.Logic.{_⊎_, inl, inr}
 use mathlib.Core.Bool.{Bool, true, false, not, _&&_, _||_, cond}
 use mathlib.Core.List.{List, [], _∷_, _++_}
 use Prim.Native.Nat.{ℕ, suc, _≤_, _<_}
@@ -10,7 +10,7 @@ use native.Mathlib.Omega.{arith}
 use lib.Dec.{eqb, ltb, ltb→lt, nltb→le, T}
 use Rattle.sets.proofs.Booleans.{or-left, or-right, or-cases, and-cases, clash, by-cond, eqb-equal, eqb-same}
 use Rattle.esterel.specs.Reactions.{Reaction}
-use Rattle.esterel.specs.Listing.{Listed, Before, Rising, reaction, before, insert, sorted, one, onlyIf, each}
+use Rattle.esterel.specs.Listing.{Listed, Before, Rising, before, insert, sorted, one, onlyIf, each}
 
 -- ---- members of lists
 pub append-left : (r : Reaction) (ts us : List Reaction) → Listed r ts → Listed r (ts ++ us)

@@ -1,6 +1,6 @@
 -- The labels that can ever be reached (document 01, "Codes and reachable labels").
 use Prim.Native.Nat.{ℕ, zero, suc}
-use mathlib.Core.Bool.{Bool, cond}
+use mathlib.Core.Bool.{cond}
 use lib.Dec.{eqb}
 use Rattle.sets.specs.Set.{_intersect_}
 use Rattle.esterel.specs.Statement.{Statement, pauses, pauseCount}

@@ -2,7 +2,7 @@
 use Prim.Native.Nat.{ℕ, max}
 use mathlib.Core.Path.{_≡_}
 use mathlib.Core.Logic.{_≢_}
-use mathlib.Core.Bool.{Bool, true, false, cond}
+use mathlib.Core.Bool.{true, false, cond}
 use lib.Dec.{eqb}
 use Rattle.sets.specs.Set.{has, only, _union_, _without_, Apart}
 use Rattle.esterel.specs.Statement.{Statement, pauses}

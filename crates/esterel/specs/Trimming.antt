@@ -1,11 +1,11 @@
 -- Trimming (Figure 7, with the two changes of document 01: the resumed present, and the try).
-use Prim.Native.Nat.{ℕ, zero, suc, pred}
+use Prim.Native.Nat.{ℕ, suc, pred}
 use mathlib.Core.Bool.{Bool, true, false, cond, not, _||_}
 use lib.Dec.{eqb, leb}
 use Rattle.sets.specs.Set.{has}
 use Rattle.esterel.specs.Statement.{Statement, nothing, pause, gotopause, emit, exit, signal, present, sequence, parallel, loop, try}
-use Rattle.esterel.specs.Codes.{Codes, join, s, d}
-use Rattle.esterel.specs.Reachability.{Reached, reach}
+use Rattle.esterel.specs.Codes.{join, s, d}
+use Rattle.esterel.specs.Reachability.{reach}
 
 unfoldable pub isNothing : Statement → Bool
 isNothing nothing = true

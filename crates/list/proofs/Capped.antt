@@ -2,22 +2,21 @@
 -- statement: a list that is made on the way has its members in the statement's own list, or is no longer than a needed one, so
 -- it passes 64 only where refusal 15 is due.
 use mathlib.Core.Path.{_≡_, refl, sym, ap, ap₂, _∙_, subst}
-use mathlib.Core.Logic.{_↔_, _≢_, _⊎_, inl, inr}
-use mathlib.Core.Bool.{Bool, true, false, not, _||_, cond}
+use mathlib.Core.Logic.{_≢_, _⊎_, inl, inr}
+use mathlib.Core.Bool.{Bool, true, false, _||_, cond}
 use mathlib.Core.List.{List, [], _∷_, _++_}
-use mathlib.Core.Option.{Option, none, some}
-use Prim.Native.Nat.{ℕ, _≤_, _<_}
+use mathlib.Core.Option.{none, some}
+use Prim.Native.Nat.{ℕ, _≤_}
 use native.Mathlib.Omega.{arith}
 use lib.Dec.{eqb, ltb}
 use lib.ListN.{length}
 use Rattle.sets.specs.Set.{has, only, _union_, _intersect_, _without_, Apart}
-use Rattle.sets.proofs.Booleans.{or-left, or-right, or-cases, or-neither, or-false, by-cond, clash, not-true, same-bool, eqb-equal, eqb-differ}
-use Rattle.sets.proofs.Members.{test-apart, apart-test, apart-union⁻}
+use Rattle.sets.proofs.Booleans.{or-left, or-right, or-cases, or-neither, or-false, by-cond, clash, not-true, same-bool}
+use Rattle.sets.proofs.Members.{test-apart, apart-union⁻}
 use Rattle.esterel.specs.Statement.{Statement, nothing, pause, gotopause, emit, exit, signal, present, sequence, parallel, loop, try, pauses}
-use Rattle.esterel.specs.Codes.{codeOf}
 use Rattle.esterel.specs.Reactions.{State, start, resumed, Reaction}
 use Rattle.esterel.specs.Listing.{Listed, Rising, reaction, sorted, one, onlyIf, each, hide, follow, together, going, caught, list, Request, request, needs, someEnds, Crowded, own, child, some as some-of, crowded}
-use Rattle.esterel.proofs.Order.{append-left, append-right, append-cases, sorted-in, sorted-out, sorted-rising, sorted-same, sorted-of-rising, rising-shorter, same-list, ltb-yes, ltb-not, ltb-lt}
+use Rattle.esterel.proofs.Order.{append-left, append-right, sorted-in, sorted-out, sorted-rising, sorted-same, sorted-of-rising, rising-shorter, ltb-yes, ltb-not, ltb-lt}
 use Rattle.esterel.proofs.Listing.{Chain, follow-out, follow-left, follow-right, going-in, going-out, together-out, listed-out, list-rising, split}
 use Rattle.esterel.proofs.Needed.{crowded-iff, crowded-step}
 use Rattle.esterel.proofs.Resuming.{derives-apart}

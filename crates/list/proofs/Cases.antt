@@ -1,10 +1,7 @@
 -- Small programs on which a likely mistake of a lister shows.
-use mathlib.Core.Path.{_≡_, refl, subst}
-use mathlib.Core.List.{List, [], _∷_}
-use Prim.Native.Nat.{ℕ}
 use Rattle.sets.specs.Set.{has, only, _union_, _intersect_, _minus_}
 use Rattle.esterel.specs.Statement.{Statement, pause, emit, signal, present, sequence, loop, pauses}
-use Rattle.esterel.specs.Reactions.{start, resumed}
+use Rattle.esterel.specs.Reactions.{resumed}
 use Rattle.esterel.specs.Listing.{IsListing, reaction, one, before, insert, sorted, each, hide, follow, going, list}
 use Rattle.esterel.proofs.Listing.{list-is-listing}
 

@@ -2,15 +2,14 @@
 -- front. What they emit fits, since they emit only what is assumed.
 use mathlib.Core.Path.{_≡_, refl, sym, ap, _∙_, subst}
 use mathlib.Core.Bool.{Bool, true, false, cond, _||_}
-use mathlib.Core.List.{List, [], _∷_, _++_, map}
-use Prim.Native.Nat.{ℕ, _+_, _*_, _/_, _^_, _≤_, _<_}
+use mathlib.Core.List.{List, [], map}
+use Prim.Native.Nat.{ℕ, _+_, _*_, _^_, _≤_, _<_}
 use native.Mathlib.Omega.{arith}
 use lib.Dec.{ltb}
-use lib.ListN.{length, drop, getD}
+use lib.ListN.{length}
 use borrow.Author.Tests.{lt-ltb, le-ltb}
 use Rattle.sets.proofs.Booleans.{or-left, or-right}
-use Rattle.esterel.specs.Statement.{Statement}
-use Rattle.esterel.specs.Reactions.{State, Reaction}
+use Rattle.esterel.specs.Reactions.{Reaction}
 use Rattle.esterel.specs.Listing.{Listed, list, listing, crowded, nesting}
 use Rattle.esterel.proofs.Listing.{listed-out}
 use Rattle.esterel.proofs.Emitting.{emitted-fits}

@@ -1,14 +1,14 @@
 -- The lister in areas of two sizes: where the small one was too small, what the large one holds is copied.
 use mathlib.Core.Path.{_≡_, refl, sym, ap, _∙_, subst}
-use mathlib.Core.List.{List, []}
-use mathlib.Core.Option.{Option, none, some}
-use Prim.Native.Nat.{ℕ, zero, suc, _+_, _*_, _≤_, _<_}
+use mathlib.Core.List.{List}
+use mathlib.Core.Option.{some}
+use Prim.Native.Nat.{ℕ, zero, suc, _+_, _≤_, _<_}
 use native.Mathlib.Omega.{arith}
 use native.Mathlib.Decide.{decLt}
 use lib.ListN.{length, getD, set, length-set}
 use lib.Seq.{getD-set-same, getD-set-other}
 use Rattle.esterel.specs.Statement.{Statement}
-use Rattle.esterel.specs.Reactions.{State, start, resumed, Reaction}
+use Rattle.esterel.specs.Reactions.{start, resumed}
 use Rattle.esterel.specs.Listing.{Rising}
 use Rattle.area.specs.Area.{rows, Made}
 use Rattle.area.proofs.Rows.{rows-agree}

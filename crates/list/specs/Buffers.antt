@@ -1,10 +1,9 @@
 -- The three result buffers after list: the reactions in front, "places past it are untouched".
 use mathlib.Core.Path.{_≡_}
 use mathlib.Core.List.{List, [], _∷_, _++_, map}
-use Prim.Native.Nat.{ℕ, zero, suc, _+_, _*_, _/_, _%_, _^_, _≤_, _<_}
-use lib.ListN.{length, drop, getD}
+use Prim.Native.Nat.{ℕ, zero, suc, _+_, _/_, _%_, _^_}
+use lib.ListN.{length, drop}
 use Rattle.esterel.specs.Reactions.{Reaction}
-use Rattle.esterel.specs.Listing.{Listed}
 use Rattle.list.specs.declared.Answer.{Answer}
 use Rattle.list.specs.Answers.{Found, answerOf, written}
 

@@ -5,7 +5,6 @@ use crate::marking;
 use crate::reacting::resume;
 use crate::reacting::start;
 use table::Checked;
-ghost use mathlib.Core.Path.{_≡_};
 ghost use Prim.Native.Nat.{_+_, _*_, _≤_};
 ghost use lib.ListN.{length};
 ghost use Rattle.table.specs.Reading.{tableOf};

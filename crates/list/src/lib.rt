@@ -1,4 +1,10 @@
 // List: the reactions of a state of a table.
+//
+// The cost: the nodes are cut out of the bytes and checked once, and one pass notes of each statement where it ends, its
+// pauses and its nesting. The lister then visits a statement once for each of its lists that is needed, so a body inside n
+// signal statements at most 2 to the n times; a part that cannot react in the state is not visited. A reaction is put into
+// its list in at most 64 steps. The stack: 100,104 bytes at depth 60, measured by bench/stack.c, of which 63,520 are the
+// largest area, made ready only where the small one does not suffice.
 pub mod finding;
 pub mod marking;
 pub mod reacting;

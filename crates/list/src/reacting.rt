@@ -12,7 +12,7 @@ ghost use mathlib.Core.List.{[], _∷_, _++_};
 ghost use mathlib.Core.Option.{some};
 ghost use Prim.Native.Nat.{_+_, _*_, _≤_, _<_};
 ghost use lib.ListN.{length};
-ghost use Rattle.sets.specs.Set.{has, only, _union_};
+ghost use Rattle.sets.specs.Set.{only, _union_};
 ghost use Rattle.esterel.specs.Statement.{emit};
 ghost use Rattle.esterel.specs.Codes.{codeOf};
 ghost use Rattle.esterel.specs.Reactions.{start as started, resumed};

@@ -1,18 +1,17 @@
 -- The operations on sets, member by member, and that a set is determined by its members. Over every width.
-use mathlib.Core.Path.{_≡_, refl, sym, ap, ap₂, _∙_, subst}
+use mathlib.Core.Path.{_≡_, refl, sym, ap, _∙_, subst}
 use mathlib.Core.Logic.{_≢_, _⊎_, inl, inr}
 use mathlib.Core.Bool.{Bool, true, false, not, _&&_, _||_, true≢false, false≢true}
 use lib.Pow.{pow-add, pow-lt}
-use Prim.Native.Nat.{ℕ, zero, suc, _+_, _-_, _*_, _/_, _%_, _^_, _≤_, _<_, suc-le-suc}
+use Prim.Native.Nat.{ℕ, zero, suc, _-_, _*_, _/_, _%_, _^_, _≤_, _<_, suc-le-suc}
 use native.Mathlib.Nat.{div-one, div-div-eq-div-mul, mul-comm, pow-suc, mul-div-cancel, mul-mod-left, mod-lt, mod-eq-of-lt, not-suc-le-zero, le-of-suc-le-suc}
-use native.Mathlib.Decide.{decLe, ℕ-discrete}
 use native.Mathlib.Omega.{arith}
 use lib.Arith.{bin-ind}
 use lib.Bits.{bitOr, bitAnd, bitXor, and-mask, or-shr, and-shr, xor-shr, or-mod, and-mod, xor-mod, or-self, or-zero-r}
 use lib.Count.{trailingZeros}
 use lib.Dec.{eqb, eqb→eq, T}
 use Rattle.sets.specs.Set.{has, only, _union_, _intersect_, _minus_, _without_, Within, Apart}
-use Rattle.sets.proofs.Booleans.{or-left, or-right, or-cases, or-neither, or-swap, and-cases, clash, not-true, eqb-equal, eqb-differ}
+use Rattle.sets.proofs.Booleans.{or-left, or-right, or-cases, or-neither, or-swap, clash, not-true, eqb-equal}
 
 -- ---- a bit
 pub bit : (n : ℕ) → (n % 2 ≡ 0) ⊎ (n % 2 ≡ 1)

@@ -1,13 +1,12 @@
 -- Reading a table: any list of bytes is refused with a number from 1 to 11, or is the table of a statement.
 -- In three parts: the header, the bytes to nodes, the nodes to a statement.
 use Prim.Native.Nat.{ℕ, zero, suc, _+_, _*_, _/_, _%_}
-use mathlib.Core.Bool.{Bool, true, false, cond, not, _||_, _&&_}
+use mathlib.Core.Bool.{cond, not, _||_, _&&_}
 use mathlib.Core.List.{List, [], _∷_}
 use lib.Dec.{eqb, ltb}
 use lib.ListN.{length, take, drop}
 use Rattle.sets.specs.Set.{has, only, _union_}
 use Rattle.esterel.specs.Statement.{Statement}
-use Rattle.table.specs.declared.Row.{Row}
 use Rattle.table.specs.declared.Checked.{Checked}
 use Rattle.table.specs.declared.Checked.the-variants.{Refused, Accepted}
 use Rattle.table.specs.Bits.{number, bitsOf}

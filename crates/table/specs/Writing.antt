@@ -1,15 +1,10 @@
 -- Writing a statement as a table, also one that no table may hold.
-use Prim.Native.Nat.{ℕ, _+_, _*_, _^_, _≤_, _<_}
-use mathlib.Core.Path.{_≡_}
-use mathlib.Core.Bool.{cond}
+use Prim.Native.Nat.{ℕ, _+_, _*_, _≤_}
 use mathlib.Core.List.{List, [], _∷_, _++_}
-use lib.Dec.{ltb}
 use lib.ListN.{length}
 use Rattle.esterel.specs.Statement.{Statement, nothing, pause, gotopause, emit, exit, signal, present, sequence, parallel, loop, try, size, depth, Valid}
-use Rattle.table.specs.declared.Row.{Row}
-use Rattle.table.specs.Kinds.{kindOf, rowOf}
-use Rattle.table.specs.Bits.{bits, bytesOf, Below}
-use Rattle.table.specs.Reading.{lengthOf, deepest}
+use Rattle.table.specs.Bits.{bits, bytesOf}
+use Rattle.table.specs.Reading.{deepest}
 
 abbrev pub node : ℕ → ℕ → ℕ
 node kind operand = kind * 64 + operand

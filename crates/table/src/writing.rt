@@ -8,7 +8,7 @@ ghost use lib.ListN.{length, take, drop};
 ghost use lib.Seq.{paste};
 ghost use Rattle.table.specs.Bits.{bits, bytesFrom, Below};
 ghost use Rattle.table.specs.Reading.{lengthOf};
-ghost use Rattle.table.specs.Writing.{nodeBits, writeNodes};
+ghost use Rattle.table.specs.Writing.{writeNodes};
 ghost use Rattle.table.specs.inner.Making.{inRange, nodeOf, Gathered, Writable};
 
 const EDITION: u64 = 1;

@@ -1,6 +1,5 @@
 -- The invariant: what the reactions from the j-th on give is still to be put in.
-use Prim.Native.Nat.{_+_, _*_, _-_, _≤_}
-use mathlib.Core.Path.{_≡_}
+use Prim.Native.Nat.{_-_, _≤_}
 use Rattle.area.proofs.Made.{Filling}
 use Rattle.area.proofs.Products.{joins, joins-goal, joins-start, joins-over, joins-step, joins-end}
 use native.Mathlib.Omega.{arith}

@@ -1,5 +1,5 @@
 -- A reaction that does not end stands alone in a sequence.
-use mathlib.Core.Path.{_≡_, ap}
+use mathlib.Core.Path.{ap}
 use mathlib.Core.Logic.{inl, inr}
 use mathlib.Core.List.{List, _++_}
 use Rattle.esterel.specs.Reactions.{Reaction}

@@ -1,6 +1,6 @@
 -- A reaction goes, or stays changed: case by case.
 use Prim.Native.Nat.{_/_}
-use mathlib.Core.Path.{_≡_, sym, _∙_}
+use mathlib.Core.Path.{sym, _∙_}
 use borrow.Author.Tests.{not-true, not-false}
 use Rattle.sets.specs.Set.{only}
 use Rattle.area.proofs.Sets.{minus-below}

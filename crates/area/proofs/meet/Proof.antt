@@ -1,7 +1,7 @@
 -- A reaction that does not end stands alone in a sequence.
-use mathlib.Core.Path.{_≡_, sym, ap, _∙_}
+use mathlib.Core.Path.{sym, ap, _∙_}
 use mathlib.Core.Logic.{inl, inr}
-use mathlib.Core.List.{List, [], _∷_}
+use mathlib.Core.List.{[], _∷_}
 use Rattle.esterel.specs.Reactions.{Reaction}
 use Rattle.area.specs.Area.{packed}
 use Rattle.area.proofs.Products.{pairs-joined, pairs-alone, joined-one}

@@ -1,7 +1,6 @@
 -- Either list alone, or both.
-use Prim.Native.Nat.{_+_, _*_}
+use Prim.Native.Nat.{_+_}
 use mathlib.Core.List.{_++_}
-use lib.ListN.{length}
 use Rattle.area.proofs.Merges.{merged-large, merged-none, merged-same, merged-cramped, merged-small}
 use native.Mathlib.Omega.{arith}
 use Rattle.area.proofs.merge.Statement.{statement}

@@ -1,5 +1,5 @@
 -- The invariant: what the reactions from the i-th on give is still to be put in.
-use Prim.Native.Nat.{_+_, _*_, _-_, _≤_}
+use Prim.Native.Nat.{_+_, _*_, _-_}
 use Rattle.area.proofs.Made.{Filling}
 use Rattle.area.proofs.Products.{products, products-goal, products-start, products-over, products-step, products-end}
 use native.Mathlib.Omega.{arith}

@@ -1,5 +1,5 @@
 -- A set as a word has no number past the width.
-use mathlib.Core.Path.{_≡_, ap, _∙_}
+use mathlib.Core.Path.{ap, _∙_}
 use Prim.Native.Nat.{ℕ}
 use Rattle.sets.specs.Set.{_minus_}
 use Rattle.area.proofs.Sets.{without-word}

@@ -1,6 +1,5 @@
 -- `deskheron::deskheron_list` meets its contract, by cases of the answer of list.
-use mathlib.Core.Path.{_≡_, refl, sym, ap, _∙_}
-use Prim.Native.Nat.{ℕ}
+use mathlib.Core.Path.{refl, sym, ap, _∙_}
 use Rattle.list.specs.declared.Answer.{Answer}
 use Rattle.list.specs.Answers.{refusalOf}
 use Rattle.deskheron.specs.Answers.{listedAfter}

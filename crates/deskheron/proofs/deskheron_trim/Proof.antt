@@ -1,5 +1,5 @@
 -- `deskheron::deskheron_trim` meets its contract, by cases of trim's answer.
-use mathlib.Core.Path.{_≡_, refl, sym, _∙_}
+use mathlib.Core.Path.{_≡_, sym, _∙_}
 use lib.ListN.{length}
 use Rattle.trim.specs.Answers.{trimOf, refusalOf}
 use Rattle.deskheron.specs.Answers.{keptAfter, bytesAfter}

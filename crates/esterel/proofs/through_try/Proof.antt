@@ -1,6 +1,6 @@
 -- `esterel::through_try` meets its contract: one equation of `through` for each arm.
 use Prim.Native.Nat.{ℕ, zero, suc, _-_, _<_}
-use mathlib.Core.Path.{_≡_, refl, sym, ap}
+use mathlib.Core.Path.{_≡_, sym, ap}
 use native.Mathlib.Omega.{arith}
 use borrow.Author.Needs.{needs}
 use Rattle.esterel.specs.Codes.{through}

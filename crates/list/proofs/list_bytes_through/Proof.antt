@@ -4,7 +4,7 @@ use lib.ListN.{length}
 use mathlib.Core.Path.{ap}
 use Rattle.table.specs.Reading.{tableOf}
 use Rattle.list.specs.Answers.{fitted, listOf}
-use Rattle.list.proofs.Deliveries.{bytes-refused, bytes-as, passed-on, count-fits, count-small, count-found}
+use Rattle.list.proofs.Deliveries.{bytes-refused, bytes-as, passed-on, count-fits, count-found}
 use borrow.Author.Needs.{needs}
 use Rattle.list.proofs.list_bytes_through.Statement.{statement}
 use Rattle.list.proofs.list_bytes_through.Tie as tie

@@ -1,5 +1,4 @@
 -- The refusal is passed on; else the reactions of the area are delivered.
-use Prim.Native.Nat.{_/_}
 use lib.ListN.{length}
 use mathlib.Core.Path.{ap}
 use Rattle.table.specs.Reading.{tableOf}

@@ -1,8 +1,8 @@
 -- The listing as the code makes it: a list of over 64 reactions counts as none, and so does one that would be made of it.
 -- That this gives none exactly where refusal 15 is due, and the listing otherwise, is proved in proofs/Capped.
 use Prim.Native.Nat.{ℕ}
-use mathlib.Core.Bool.{Bool, true, false, cond}
-use mathlib.Core.List.{List, [], _∷_, _++_}
+use mathlib.Core.Bool.{Bool, cond}
+use mathlib.Core.List.{List, [], _++_}
 use mathlib.Core.Option.{Option, none, some}
 use lib.Dec.{eqb}
 use Rattle.sets.specs.Set.{has, only, _union_, _intersect_, _without_}

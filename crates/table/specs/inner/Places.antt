@@ -1,7 +1,7 @@
 -- The statement that stands at a place of decoded nodes, as the passes over a table walk it. It never refuses: what is
 -- missing or too deep is nothing. On an accepted table it is the statement that was read (proofs/Places).
 use Prim.Native.Nat.{ℕ, zero, suc, _+_}
-use mathlib.Core.Bool.{Bool, cond}
+use mathlib.Core.Bool.{cond}
 use mathlib.Core.List.{List}
 use lib.Dec.{ltb}
 use lib.ListN.{length, getD}

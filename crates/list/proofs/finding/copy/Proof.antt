@@ -1,5 +1,5 @@
 -- The invariant: i words are copied.
-use Prim.Native.Nat.{_*_, _-_, _≤_}
+use Prim.Native.Nat.{_-_, _≤_}
 use mathlib.Core.Path.{refl}
 use Rattle.list.proofs.Findings.{Copying, copying-step}
 use native.Mathlib.Omega.{arith}

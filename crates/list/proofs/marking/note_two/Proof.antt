@@ -1,5 +1,5 @@
 -- What was found of the two children is written.
-use Prim.Native.Nat.{ℕ, _+_, max}
+use Prim.Native.Nat.{ℕ, max}
 use mathlib.Core.Path.{ap, ap₂, _∙_}
 use lib.ListN.{getD}
 use Rattle.sets.specs.Set.{_union_}

@@ -1,5 +1,5 @@
 -- The number is below the width.
-use mathlib.Core.Path.{_≡_, ap, _∙_}
+use mathlib.Core.Path.{ap, _∙_}
 use Prim.Native.Nat.{ℕ}
 use Rattle.sets.specs.Set.{_union_}
 use Rattle.area.proofs.Sets.{only-word}

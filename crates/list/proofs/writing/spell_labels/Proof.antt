@@ -1,6 +1,6 @@
 -- The invariant: i numbers are written.
-use Prim.Native.Nat.{ℕ, _+_, _*_, _-_, _≤_}
-use mathlib.Core.Path.{_≡_, subst}
+use Prim.Native.Nat.{ℕ, _*_, _-_, _≤_}
+use mathlib.Core.Path.{subst}
 use mathlib.Core.List.{map}
 use Rattle.area.specs.Area.{rows}
 use Rattle.list.specs.Buffers.{spread, reachedOf}

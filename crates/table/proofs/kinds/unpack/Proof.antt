@@ -1,5 +1,5 @@
 -- Masks of a byte are remainders.
-use mathlib.Core.Path.{_≡_, refl}
+use mathlib.Core.Path.{refl}
 use native.Mathlib.Omega.{arith}
 use lib.Bits.{and-mask, mask-lt}
 use Prim.Native.Nat.{_/_}

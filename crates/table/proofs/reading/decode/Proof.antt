@@ -1,9 +1,7 @@
 -- The loops' invariant: the nodes cut so far were put in front of the buffer.
-use mathlib.Core.Path.{_≡_, refl, ap, _∙_, subst}
-use mathlib.Core.List.{List}
+use mathlib.Core.Path.{_≡_, refl, _∙_, subst}
 use Prim.Native.Nat.{ℕ, _+_, _-_, _%_, _≤_}
 use native.Mathlib.Omega.{arith}
-use lib.ListN.{length}
 use Rattle.table.specs.Reading.{lengthOf}
 use Rattle.table.specs.inner.Loading.{Front, Cut}
 use Rattle.table.proofs.Cutting.{cut-none, cut-then, cut-all, length-cut}
