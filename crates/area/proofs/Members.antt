@@ -89,7 +89,3 @@ cap-none ts h = rw (lt-ltb 64 (length ts) h)
 pub collect-same : {ts us : List Reaction} → Same ts us → collect ts ≡ collect us
 unfolding collect
 collect-same s = ap cap (sorted-equal s)
-
--- what was collected, collected again with more
-pub same-collected : (ts us : List Reaction) → Same (sorted ts ++ us) (ts ++ us)
-same-collected ts us = same-append (sorted ts) ts us us (same-sorted ts) (same us)

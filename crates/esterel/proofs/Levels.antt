@@ -10,7 +10,7 @@ use native.Mathlib.Omega.{arith}
 use lib.Dec.{leb, T, leb→le, le→leb}
 use Rattle.sets.specs.Set.{_union_, Apart}
 use Rattle.sets.proofs.Booleans.{or-neither, eqb-differ, differ-eqb}
-use Rattle.esterel.specs.Statement.{Statement, nothing, pause, gotopause, emit, exit, signal, present, sequence, parallel, loop, try, pauses, size, depth}
+use Rattle.esterel.specs.Statement.{Statement, nothing, pause, gotopause, emit, exit, signal, present, sequence, parallel, loop, try, pauses, size}
 use Rattle.esterel.specs.Codes.{codeOf, through}
 use Rattle.esterel.specs.Trimming.{endsAt, shiftLevel, shiftExits, raise, lower}
 use Rattle.esterel.specs.Reactions.{State, start, resumed, Derives, reachedTogether}
@@ -44,20 +44,6 @@ size-shift f c (sequence p q) = ap₂ (λ (m n : ℕ). suc (m + n)) (size-shift 
 size-shift f c (parallel p q) = ap₂ (λ (m n : ℕ). suc (m + n)) (size-shift f c p) (size-shift f c q)
 size-shift f c (loop p) = ap suc (size-shift f c p)
 size-shift f c (try p) = ap suc (size-shift f (suc c) p)
-
-pub depth-shift : (f : ℕ → ℕ) (c : ℕ) (p : Statement) → depth (shiftExits f c p) ≡ depth p
-unfolding depth shiftExits
-depth-shift f c nothing = refl
-depth-shift f c (pause l) = refl
-depth-shift f c (gotopause l) = refl
-depth-shift f c (emit S) = refl
-depth-shift f c (exit e) = refl
-depth-shift f c (signal S p) = ap suc (depth-shift f c p)
-depth-shift f c (present S p q) = ap₂ (λ (m n : ℕ). suc (max m n)) (depth-shift f c p) (depth-shift f c q)
-depth-shift f c (sequence p q) = ap₂ (λ (m n : ℕ). suc (max m n)) (depth-shift f c p) (depth-shift f c q)
-depth-shift f c (parallel p q) = ap₂ (λ (m n : ℕ). suc (max m n)) (depth-shift f c p) (depth-shift f c q)
-depth-shift f c (loop p) = ap suc (depth-shift f c p)
-depth-shift f c (try p) = ap suc (depth-shift f (suc c) p)
 
 -- ---- levels and codes
 -- a level stays, or is changed

@@ -3,18 +3,18 @@
 use mathlib.Core.Path.{_≡_, refl, sym, ap, _∙_, subst}
 use mathlib.Core.List.{List, [], _∷_, _++_, append-assoc, append-nil}
 use Prim.Native.Nat.{ℕ, zero, suc, _+_, _-_, _*_, _/_, _%_, _^_, _≤_, _<_}
-use native.Mathlib.Nat.{div-one, mod-eq-of-lt, lt-of-lt-of-le}
+use native.Mathlib.Nat.{div-one, mod-eq-of-lt}
 use native.Mathlib.Numerals.{add-one}
 use native.Mathlib.Omega.{arith}
 use lib.Bits.{bitAnd, and-mask, bitOr, or-shifted}
 use lib.Dec.{lit≤}
-use lib.ListN.{length, getD, take, drop, length-take, length-append, length-drop, set, length-set}
-use lib.Pow.{shl-exact, pow-mono}
+use lib.ListN.{length, getD, take, drop, set, length-set}
+use lib.Pow.{shl-exact}
 use lib.Seq.{drop-cons, drop-drop, drop-length, drop-nil, drop-at, take-at, set-at, length-take-le, append-snoc, take-suc, take-all}
 use Rattle.table.specs.Bits.{bits, number, bitsOf, Below}
 use Rattle.table.specs.Reading.{lengthOf, editionOf, countOf, paddingOf, nodesFrom, nodesOf}
 use Rattle.table.specs.inner.Loading.{wordAt, Front, Cut}
-use Rattle.table.proofs.Bits.{length-bits, bits-split, bits-append, number-bits, number-below, below-cons, below-bitsOf, below-drop, below-take}
+use Rattle.table.proofs.Bits.{length-bits, bits-split, bits-append, number-bits}
 
 -- ---- Words
 -- two bytes side by side, as shifts make them
@@ -140,20 +140,6 @@ take-nodesOf t i n h = go i n (drop 16 (bitsOf t)) h
     go (suc i) zero l h = absurd (omega arith)
     go (suc i) (suc n) l h = ap (λ (m : List ℕ). number (take 10 l) ∷ m) (go i n (drop 10 l) (omega arith))
 
--- every node has ten bits
-pub below-nodesOf : (t : List ℕ) (n : ℕ) → Below 1024 (nodesOf t n)
-unfolding nodesOf nodesFrom
-below-nodesOf t n = go n (drop 16 (bitsOf t)) (below-drop 2 16 (bitsOf t) (below-bitsOf t))
-  where
-    field : (l : List ℕ) → Below 2 l → number (take 10 l) < 1024
-    field l f =
-        let b : length (take 10 l) ≤ 10 = omega (arith, length-take 10 l) in
-        lt-of-lt-of-le (number-below (take 10 l) (below-take 2 10 l f)) (pow-mono b)
-
-    go : (n : ℕ) (l : List ℕ) → Below 2 l → Below 1024 (nodesFrom n l)
-    go zero l f i = omega arith
-    go (suc n) l f i = below-cons 1024 (number (take 10 l)) (nodesFrom n (drop 10 l)) (field l f) (go n (drop 10 l) (below-drop 2 10 l f)) i
-
 -- a buffer whose first i numbers were overwritten by those of a list
 pub overwritten-more : (d s : List ℕ) (i : ℕ) → i < length d → i < length s → set (take i s ++ drop i d) i (getD s i 0) ≡ take (i + 1) s ++ drop (i + 1) d
 overwritten-more d s i hd hs =
@@ -161,9 +147,6 @@ overwritten-more d s i hd hs =
     ap (λ (r : List ℕ). set (take i s ++ r) i (getD s i 0)) (drop-cons d i 0 hd)
     ∙ set-at (take i s) (getD d i 0) (drop (suc i) d) (getD s i 0) i (length-take-le i s (omega arith)) ∙ sym (append-snoc (take i s) (getD s i 0) (drop (suc i) d))
     ∙ ap (λ (r : List ℕ). r ++ drop (suc i) d) (sym (take-suc s i 0 hs)) ∙ ap (λ (k : ℕ). take k s ++ drop k d) (sym next)
-
-pub length-overwritten : (d s : List ℕ) (i : ℕ) → i ≤ length d → i ≤ length s → length (take i s ++ drop i d) ≡ length d
-length-overwritten d s i hd hs = length-append (take i s) (drop i d) ∙ rw (length-take-le i s hs, length-drop i d) (omega arith)
 
 -- ---- The nodes in front of a buffer
 -- one more of them

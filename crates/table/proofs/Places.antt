@@ -1,7 +1,7 @@
 -- The statement at a place of decoded nodes: where the nodes of a statement stand from a place on, it is that statement, and
 -- the next place is the one after them. So on an accepted table it is the statement that was read.
 use mathlib.Core.Path.{_≡_, sym, ap, _∙_}
-use mathlib.Core.List.{List, [], _∷_, _++_, append-assoc, append-nil}
+use mathlib.Core.List.{List, _∷_, _++_, append-assoc}
 use Prim.Native.Nat.{ℕ, zero, suc, _+_, _-_, _≤_, _<_}
 use native.Mathlib.Numerals.{add-one}
 use native.Mathlib.Nat.{zero-add}
@@ -113,6 +113,3 @@ placed-front t n p ys h =
     let a = accepted t n p h in
     placed-nodes (nodesOf t n ++ ys) deepest p 0 ys (ap (λ (l : List ℕ). l ++ ys) (a .nodes-are)) (a .deep) (valid-narrow 0 p (a .valid))
     ∙ ap (placed p) (zero-add (size p) ∙ a .count)
-
-pub placed-table : (t : List ℕ) (n : ℕ) (p : Statement) → tableOf t ≡ holds n p → statementAt deepest (nodesOf t n) 0 ≡ placed p n
-placed-table t n p h = ap (λ (l : List ℕ). statementAt deepest l 0) (sym (append-nil (nodesOf t n))) ∙ placed-front t n p [] h
