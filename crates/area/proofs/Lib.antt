@@ -1,4 +1,3 @@
-pub mod Sets
 pub mod Members
 pub mod Rows
 pub mod Moves

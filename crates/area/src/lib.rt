@@ -5,7 +5,7 @@ ghost use mathlib.Core.Path.{_≡_};
 ghost use mathlib.Core.Bool.{true, false, not};
 ghost use mathlib.Core.List.{[], _∷_, _++_};
 ghost use mathlib.Core.Option.{some};
-ghost use Prim.Native.Nat.{ℕ, _+_, _*_, _%_, _^_, _≤_, _<_, max};
+ghost use Prim.Native.Nat.{ℕ, _+_, _*_, _%_, _≤_, _<_, max};
 ghost use lib.ListN.{length};
 ghost use Rattle.sets.specs.Set.{_without_};
 ghost use Rattle.esterel.specs.Codes.{through};
@@ -25,14 +25,6 @@ pub enum Change {
 pub enum Pairing {
     Sequence,
     Parallel,
-}
-
-// The set without one number.
-pub fn without(set: u64, number: u8) -> u64
-    ensures { λ r. ⌜ r ≡ set without number ⌝ }
-{
-    let b = sets::singleton(number);
-    set ^ (set & b)
 }
 
 fn less(w: u64, l: u64, v: u64, m: u64) -> bool
@@ -166,7 +158,7 @@ fn alter_one(area: &mut [u64], base: usize, m: usize, change: Change, w: u64, l:
             if !sets::contains(o, signal) {
                 return m;
             }
-            let rest = without(o, signal);
+            let rest = sets::without(o, signal);
             put(area, base, m, rest * 256 + w % 256, l)
         }
         Change::Going => {

@@ -12,7 +12,7 @@ use Rattle.esterel.specs.Statement.{Statement, nothing, pause, gotopause, emit,
 use Rattle.esterel.specs.Listing.{nesting}
 use Rattle.table.specs.Reading.{kindOfNode, operandOf}
 use Rattle.table.specs.inner.Places.{Placed, placed}
-use Rattle.area.proofs.Sets.{only-word}
+use Rattle.sets.proofs.Words.{only-word}
 use Rattle.list.specs.inner.Notes.{endIn, placeAt, partAt, Whole, EndsFrom, NestsFrom, PausesFrom, Noted, Room, Wrote}
 use Rattle.list.proofs.Nodes.{One, Two, before-end, is-nothing, is-pause, is-gotopause, is-emit, is-exit, is-signal, is-present, is-sequence, is-parallel, is-loop, is-try, is-unused}
 

@@ -17,7 +17,7 @@ use Rattle.area.specs.declared.Change.the-variants.{Hide, Going, Caught}
 use Rattle.area.specs.declared.Pairing.the-variants.{Parallel}
 use Rattle.area.specs.Rules.{change, product}
 use Rattle.area.specs.Area.{packed, Made}
-use Rattle.area.proofs.Sets.{only-word}
+use Rattle.sets.proofs.Words.{only-word}
 use Rattle.area.proofs.Rows.{packed-made}
 use Rattle.area.proofs.Made.{made-as, made-need, made-empty}
 use Rattle.list.specs.inner.Capped.{changeIn, joinIn, unionIn, followIn, capped}

@@ -137,7 +137,7 @@ pub fn start(
             let n = start(nodes, ends, first, with, area, base);
             let n1 = area::alter(area, base, n, Change::Hide(operand));
             let top = above(area, base, n1);
-            let without = area::without(assumed, operand);
+            let without = sets::without(assumed, operand);
             let n2 = start(nodes, ends, first, without, area, top);
             either(area, base, n1, n2)
         }
@@ -252,7 +252,7 @@ pub fn resume(
             let n = resume(nodes, ends, pauses, first, with, labels, area, base);
             let n1 = area::alter(area, base, n, Change::Hide(operand));
             let top = above(area, base, n1);
-            let without = area::without(assumed, operand);
+            let without = sets::without(assumed, operand);
             let n2 = resume(nodes, ends, pauses, first, without, labels, area, top);
             either(area, base, n1, n2)
         }

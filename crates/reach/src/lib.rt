@@ -1,7 +1,7 @@
 // Reach: one pass over the nodes for a summary of the statement, then rounds over it until none adds a label. The pass leaves
 // notes at the nodes, for trim.
 pub mod codes;
-pub mod pass;
+pub mod noted;
 pub mod summary;
 
 use codes::CodeSet;

@@ -1,3 +1,4 @@
 pub mod Booleans
 pub mod Members
 pub mod Counts
+pub mod Words

@@ -31,10 +31,10 @@ pub fn least(set: u64) -> u8
     u64::trailing_zeros(set) as u8
 }
 
-// The members other than the number.
+// The set without one number.
 pub fn without(set: u64, number: u8) -> u64
-    requires { ⌜ number < 64 ⌝ }
     ensures { λ r. ⌜ r ≡ set without number ⌝ }
 {
-    set ^ set & 1 << number
+    let own = singleton(number);
+    set ^ (set & own)
 }

@@ -4,7 +4,7 @@ use crate::work;
 use crate::work::Part;
 use esterel::Label;
 use esterel::Level;
-use reach::pass;
+use reach::noted;
 ghost use mathlib.Core.Path.{_≡_};
 ghost use mathlib.Core.Bool.{_||_};
 ghost use Prim.Native.Nat.{_+_, _≤_, _<_};
@@ -120,7 +120,7 @@ pub fn trim_at(
     let note = notes[at];
     let operand = table::operand_of(node);
     let first = at + 1;
-    let second = pass::second_place(note);
+    let second = noted::second_place(note);
     let below = left - 1;
     let b = around.started;
     match table::kind_of(node) {
@@ -137,7 +137,7 @@ pub fn trim_at(
             work::wrap_if(work, p, to, sets::contains(p.named, operand), 5, operand)
         }
         6 => {
-            let guarded = pass::can_end(note, false);
+            let guarded = noted::can_end(note, false);
             let inner = in_else(around, guarded);
             let q = trim_at(nodes, notes, r, second, below, inner, places, work, to);
             let e = work::close_else(work, q, to, b, guarded);
@@ -145,7 +145,7 @@ pub fn trim_at(
             work::close_present(work, p, e, to, b, operand)
         }
         7 => {
-            let inner = with_started(around, pass::can_end(note, b));
+            let inner = with_started(around, noted::can_end(note, b));
             let q = trim_at(nodes, notes, r, second, below, inner, places, work, to);
             let p = trim_at(nodes, notes, r, first, below, around, places, work, q.from);
             work::join_parts(work, p, q, to, 7)
@@ -156,7 +156,7 @@ pub fn trim_at(
             work::join_parts(work, p, q, to, 8)
         }
         9 => {
-            let again = pass::can_end(note, b);
+            let again = noted::can_end(note, b);
             let inner = with_started(around, again | b);
             let p = trim_at(nodes, notes, r, first, below, inner, places, work, to);
             work::wrap_if(work, p, to, again, 9, 0)

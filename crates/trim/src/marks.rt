@@ -1,7 +1,7 @@
 // Which try statements trimming keeps: one pass over the nodes that completes reach's notes with R, finds the exits left in
 // each trimmed statement and notes at each try whether one of them ends there.
 use esterel::Level;
-use reach::pass;
+use reach::noted;
 ghost use mathlib.Core.Path.{_≡_};
 ghost use Prim.Native.Nat.{_<_};
 ghost use lib.ListN.{length, getD, set};
@@ -53,8 +53,8 @@ fn in_turn(note: u16, p: Exits, q: Exits) -> Exits
     ensures { λ r. ⌜ r ≡ inTurnOf note p q ⌝ }
 {
     Exits {
-        resumed: p.resumed | exits_if(pass::can_end(note, false), q),
-        started: p.started | exits_if(pass::can_end(note, true), q),
+        resumed: p.resumed | exits_if(noted::can_end(note, false), q),
+        started: p.started | exits_if(noted::can_end(note, true), q),
     }
 }
 
@@ -63,7 +63,7 @@ fn again(note: u16, p: Exits) -> Exits
     ensures { λ r. ⌜ r ≡ againOf note p ⌝ }
 {
     Exits {
-        resumed: exits_if(pass::can_end(note, false), p),
+        resumed: exits_if(noted::can_end(note, false), p),
         started: p.started,
     }
 }
@@ -117,7 +117,7 @@ pub fn mark_at(
     let node = nodes[at];
     let note = complete(notes, at, endings, r);
     let first = at + 1;
-    let second = pass::second_place(note);
+    let second = noted::second_place(note);
     let below = left - 1;
     match table::kind_of(node) {
         0 => no_exits(),

@@ -3,7 +3,7 @@ use Prim.Native.Nat.{_/_}
 use mathlib.Core.Path.{sym, _∙_}
 use borrow.Author.Tests.{not-true, not-false}
 use Rattle.sets.specs.Set.{only}
-use Rattle.area.proofs.Sets.{minus-below}
+use Rattle.sets.proofs.Words.{minus-below}
 use Rattle.area.proofs.Changes.{put-none, put-one, hide-none, hide-one, going-none, going-one, caught-one}
 use native.Mathlib.Omega.{arith}
 use borrow.Author.Needs.{needs}

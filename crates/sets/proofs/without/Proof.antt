@@ -1,18 +1,18 @@
--- `sets::without` meets its contract.
-use Prim.Native.Nat.{_^_}
-use native.Mathlib.Nat.{one-mul, mod-eq-of-lt}
-use lib.Pow.{pow-lt}
+-- A set as a word has no number past the width.
+use mathlib.Core.Path.{ap, _∙_}
+use Prim.Native.Nat.{ℕ}
+use Rattle.sets.specs.Set.{_minus_}
+use Rattle.sets.proofs.Words.{without-word}
 use borrow.Author.Needs.{needs}
-use Rattle.sets.specs.Set.{only, _minus_}
 use Rattle.sets.proofs.without.Statement.{statement}
 use Rattle.sets.proofs.without.Tie as tie
 
-shl-result : tie.Need-shl-result
-shl-result c = search needs
+singleton-requires : tie.Need-singleton-requires
+singleton-requires c κs = search needs
 
 returns : tie.Need-returns
-unfolding only _minus_
-returns c = let a = c .args in rw (one-mul (2 ^ a .number), mod-eq-of-lt (pow-lt (c .pre)))
+unfolding _minus_
+returns c = ap (λ (z : ℕ). c .before .args .set minus z) (c .singleton .ensures) ∙ without-word 64 (c .before .args .set) (c .before .args .number) (search needs)
 
 pub without-spec : {M : Type 1} → statement M
-without-spec = tie.close (tie.spec shl-result returns)
+without-spec = tie.close (tie.spec singleton-requires returns)

@@ -23,7 +23,7 @@ use Rattle.list.proofs.reacting.resume.Reads as resume
 use Rattle.list.proofs.reacting.resume.Kinds as resume-kinds
 use Rattle.list.proofs.reacting.+resume.Lts-resume as resume-lts
 use Rattle.area.proofs.alter.Reads as alter-reads
-use Rattle.area.proofs.without.Reads as without-reads
+use Rattle.sets.proofs.without.Reads as without-reads
 use Rattle.list.proofs.reacting.above.Reads as above-reads
 use Rattle.list.proofs.reacting.alone.Reads as alone-reads
 use Rattle.list.proofs.reacting.either.Reads as either-reads

@@ -24,7 +24,7 @@ use Rattle.list.proofs.reacting.start.Kinds as start-kinds
 use Rattle.list.proofs.reacting.+start.Lts-start as start-lts
 use Rattle.area.proofs.alter.Reads as alter-reads
 use Rattle.area.proofs.product.Reads as product-reads
-use Rattle.area.proofs.without.Reads as without-reads
+use Rattle.sets.proofs.without.Reads as without-reads
 use Rattle.list.proofs.reacting.above.Reads as above-reads
 use Rattle.list.proofs.reacting.alone.Reads as alone-reads
 use Rattle.list.proofs.reacting.either.Reads as either-reads

@@ -2,7 +2,7 @@
 use native.Mathlib.Omega.{arith}
 use mathlib.Core.Path.{sym, _∙_}
 use borrow.Author.Tests.{not-true, not-false}
-use Rattle.area.proofs.Sets.{only-below, only-word}
+use Rattle.sets.proofs.Words.{only-below, only-word}
 use Rattle.list.proofs.Starts.{emit-none, emit-one}
 use borrow.Author.Needs.{needs}
 use Rattle.list.proofs.reacting.emitted.Statement.{statement}

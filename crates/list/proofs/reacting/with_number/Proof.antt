@@ -2,7 +2,7 @@
 use mathlib.Core.Path.{ap, _∙_}
 use Prim.Native.Nat.{ℕ}
 use Rattle.sets.specs.Set.{_union_}
-use Rattle.area.proofs.Sets.{only-word}
+use Rattle.sets.proofs.Words.{only-word}
 use borrow.Author.Needs.{needs}
 use Rattle.list.proofs.reacting.with_number.Statement.{statement}
 use Rattle.list.proofs.reacting.with_number.Tie as tie

@@ -33,7 +33,7 @@ store-requires : tie.Need-store-requires Inv-loop μ-loop
 store-requires c κs = c .before .before .before .before .before .least .ensures .0
 
 without-requires : tie.Need-without-requires Inv-loop μ-loop
-without-requires c κs = c .before .before .before .before .before .before .least .ensures .0
+without-requires c κs = tt
 
 loop-less : tie.Need-loop-less Inv-loop μ-loop
 loop-less c =

@@ -41,7 +41,7 @@ set-if-requires : tie.Need-set-if-requires Inv-loop μ-loop
 set-if-requires c κs = tt
 
 without-requires : tie.Need-without-requires Inv-loop μ-loop
-without-requires c κs = c .before .before .before .before .before .before .before .before .least .ensures .0
+without-requires c κs = tt
 
 loop-less : tie.Need-loop-less Inv-loop μ-loop
 loop-less c =

@@ -21,8 +21,8 @@ use borrow.Fn.PlainCycle.{Measures, is, falls, and}
 use Rattle.trim.proofs.descent.trim_at.Reads as trim-at
 use Rattle.trim.proofs.descent.trim_at.Kinds as trim-at-kinds
 use Rattle.trim.proofs.descent.+trim_at.Lts-trim_at as trim-at-lts
-use Rattle.reach.proofs.pass.can_end.Reads as can-end-reads
-use Rattle.reach.proofs.pass.second_place.Reads as second-place-reads
+use Rattle.reach.proofs.noted.can_end.Reads as can-end-reads
+use Rattle.reach.proofs.noted.second_place.Reads as second-place-reads
 use Rattle.sets.proofs.contains.Reads as contains-reads
 use Rattle.sets.proofs.singleton.Reads as singleton-reads
 use Rattle.table.proofs.kind_of.Reads as kind-of-reads

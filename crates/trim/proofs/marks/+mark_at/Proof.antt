@@ -15,7 +15,7 @@ use borrow.Fn.PlainCycle.{Measures, is, falls, and}
 use Rattle.trim.proofs.marks.mark_at.Reads as mark-at
 use Rattle.trim.proofs.marks.mark_at.Kinds as mark-at-kinds
 use Rattle.trim.proofs.marks.+mark_at.Lts-mark_at as mark-at-lts
-use Rattle.reach.proofs.pass.second_place.Reads as second-place-reads
+use Rattle.reach.proofs.noted.second_place.Reads as second-place-reads
 use Rattle.table.proofs.kind_of.Reads as kind-of-reads
 use Rattle.table.proofs.operand_of.Reads as operand-of-reads
 use Rattle.trim.proofs.marks.again.Reads as again-reads

@@ -1,4 +1,4 @@
--- Sets as words.
+-- Sets as words of w bits.
 use mathlib.Core.Path.{_≡_, sym, ap, _∙_}
 use mathlib.Core.Bool.{false, not, _&&_}
 use Prim.Native.Nat.{ℕ, _%_, _^_, _≤_, _<_}

@@ -1,9 +1,9 @@
--- `pass::second_place` meets its contract.
+-- `noted::second_place` meets its contract.
 use mathlib.Core.Path.{refl}
 use borrow.Author.Needs.{needs}
 use Rattle.reach.specs.inner.Notes.{secondOf}
-use Rattle.reach.proofs.pass.second_place.Statement.{statement}
-use Rattle.reach.proofs.pass.second_place.Tie as tie
+use Rattle.reach.proofs.noted.second_place.Statement.{statement}
+use Rattle.reach.proofs.noted.second_place.Tie as tie
 
 cast-result : tie.Need-cast-result
 cast-result c = search needs
