@@ -107,7 +107,7 @@ module _ (t : ℕ) where
   of-pause-requires c κs = (narrow t (c .before .before), summable t (c .before .before) .room)
 
   of-gotopause-requires : summary-at-lts.Need-of-gotopause-requires (claims t) (summary-at-at t) summary-at.Post
-  of-gotopause-requires c κs = narrow t (c .before)
+  of-gotopause-requires c κs = omega (arith, narrow t (c .before))
 
   of-nothing-requires-3 : summary-at-lts.Need-of-nothing-requires-3 (claims t) (summary-at-at t) summary-at.Post
   of-nothing-requires-3 c κs = tt
