@@ -113,7 +113,7 @@ list (loop p) start E = sorted (going (list p start E))
 list (loop p) (resumed X) E = sorted (going (follow (list p (resumed X) E) (list p start E)))
 list (try p) x E = sorted (caught (list p x E))
 
--- the listing of a program in a state: what runs of it, its steps and its listing speak of
+-- the listing of a program in a state under E: what contracts and the third demand speak of
 unfoldable pub listing : Statement → State → ℕ → List Reaction
 listing p x E = list p x E
 

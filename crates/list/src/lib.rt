@@ -5,9 +5,9 @@
 // signal statements at most 2 to the n times; a part that cannot react in the state is not visited. A reaction is put into
 // its list in at most 64 steps. The stack: 100,104 bytes at depth 60, measured by bench/stack.c, of which 63,520 are the
 // largest area, made ready only where the small one does not suffice.
-pub mod finding;
-pub mod marking;
-pub mod reacting;
+mod finding;
+mod marking;
+mod reacting;
 mod writing;
 
 ghost use mathlib.Core.Path.{_≡_};
