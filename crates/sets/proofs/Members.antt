@@ -281,3 +281,14 @@ least-member (suc w) m h z = go (least-member w (m / 2)) (bit m)
     go : (m / 2 < 2 ^ w → m / 2 ≢ 0 → has (m / 2) (trailingZeros w (m / 2)) ≡ true) → (m % 2 ≡ 0) ⊎ (m % 2 ≡ 1) → has m (trailingZeros (suc w) m) ≡ true
     go ih (inl e) = rw e (ih (half-small w m h z e) (half-some w m h z e))
     go ih (inr e) = rw e (ap (λ (n : ℕ). eqb n 1) e)
+
+pub least-first : (w m : ℕ) → m < 2 ^ w → m ≢ 0 → (x : ℕ) → x < trailingZeros w m → has m x ≡ false
+unfolding trailingZeros has
+least-first zero m h z x l = absurd (z (omega arith))
+least-first (suc w) m h z x l = go (least-first w (m / 2)) (bit m) x l
+  where
+    go : (m / 2 < 2 ^ w → m / 2 ≢ 0 → (y : ℕ) → y < trailingZeros w (m / 2) → has (m / 2) y ≡ false) → (m % 2 ≡ 0) ⊎ (m % 2 ≡ 1)
+        → (y : ℕ) → y < trailingZeros (suc w) m → has m y ≡ false
+    go ih (inl e) zero k = ap (λ (n : ℕ). eqb n 1) e
+    go ih (inl e) (suc y) k = ih (half-small w m h z e) (half-some w m h z e) y (le-of-suc-le-suc (rw e at k))
+    go ih (inr e) y k = absurd (let none : y < 0 = rw e at k in omega arith)

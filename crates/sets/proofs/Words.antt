@@ -4,16 +4,10 @@ use mathlib.Core.Bool.{false, not, _&&_}
 use Prim.Native.Nat.{ℕ, _%_, _^_, _≤_, _<_}
 use native.Mathlib.Omega.{arith}
 use native.Mathlib.Decide.{decLt, ℕ-discrete}
-use native.Mathlib.Nat.{mod-eq-of-lt}
 use lib.Bits.{bitAnd, and-le-l, xor-lt}
 use lib.Pow.{pow-lt}
 use Rattle.sets.specs.Set.{has, only, _minus_, _without_}
-use Rattle.sets.proofs.Members.{has-empty, has-minus, has-only-other, only-past, past-width, ext}
-
--- the set of one number, as a word of w bits
-pub only-word : (w x : ℕ) → x < w → only x % 2 ^ w ≡ only x
-unfolding only
-only-word w x h = mod-eq-of-lt (pow-lt h)
+use Rattle.sets.proofs.Members.{has-empty, has-minus, has-only-other, only-past, only-fits, past-width, ext}
 
 pub only-below : (w x : ℕ) → x < w → only x < 2 ^ w
 unfolding only
@@ -30,7 +24,7 @@ without-word w m x h = go (decLt x w)
     past k y (no n) = has-minus m 0 y ∙ ap (λ b. has m y && not b) (has-empty y ∙ sym (has-only-other x y n)) ∙ sym (has-minus m (only x) y)
 
     go : Dec (x < w) → m minus (only x % 2 ^ w) ≡ m without x
-    go (yes k) = ap (λ (z : ℕ). m minus z) (only-word w x k)
+    go (yes k) = ap (λ (z : ℕ). m minus z) (only-fits w x k)
     go (no k) = ap (λ (z : ℕ). m minus z) (only-past w x (omega arith)) ∙ ext (m minus 0) (m without x) (λ y. past (omega arith) y (ℕ-discrete x y))
 
 pub minus-below : (w m n : ℕ) → m < 2 ^ w → m minus n < 2 ^ w

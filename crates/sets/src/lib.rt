@@ -1,9 +1,9 @@
 // Sets of the numbers 0 to 63, a bit each.
 ghost use mathlib.Core.Path.{_≡_};
 ghost use mathlib.Core.Logic.{_≢_};
-ghost use mathlib.Core.Bool.{true};
-ghost use Prim.Native.Nat.{_%_, _^_, _<_};
-ghost use Rattle.sets.specs.Set.{has, only, _without_};
+ghost use mathlib.Core.Bool.{true, false};
+ghost use Prim.Native.Nat.{ℕ, _%_, _^_, _<_};
+ghost use Rattle.sets.specs.Set.{has, only, _union_, _without_};
 
 // Whether the number is in the set.
 pub fn contains(set: u64, number: u8) -> bool
@@ -26,9 +26,17 @@ pub fn singleton(number: u8) -> u64
 // The least member of a set that has one.
 pub fn least(set: u64) -> u8
     requires { ⌜ set ≢ 0 ⌝ }
-    ensures { λ r. ⌜ (r < 64) × (has set r ≡ true) ⌝ }
+    ensures { λ r. ⌜ (r < 64) × (has set r ≡ true) × ((x : ℕ) → x < r → has set x ≡ false) ⌝ }
 {
     u64::trailing_zeros(set) as u8
+}
+
+// The set with one number more.
+pub fn with(set: u64, number: u8) -> u64
+    requires { ⌜ number < 64 ⌝ }
+    ensures { λ r. ⌜ r ≡ set union only number ⌝ }
+{
+    set | singleton(number)
 }
 
 // The set without one number.

@@ -13,7 +13,7 @@ use Rattle.esterel.specs.Statement.{Statement, pauses, size, depth, Valid}
 use Rattle.table.specs.declared.Checked.{Checked}
 use Rattle.table.specs.declared.Checked.the-variants.{Refused, Accepted}
 use Rattle.table.specs.Kinds.{kinds, kindOf}
-use Rattle.table.specs.Reading.{Reading, refused, read, withOne, withTwo, readKind, readIf, readNode, readFrom, faultOf, headerOf, nodesOf, deepest, Table, holds, wholeOf, tableAfter, tableOf, answerOf, checkOf}
+use Rattle.table.specs.Reading.{Reading, refused, read, withOne, withTwo, readKind, readIf, readNode, readFrom, faultOf, headerOf, nodesOf, deepest, Table, holds, wholeOf, tableAfter, tableOf}
 use Rattle.table.specs.Writing.{node, nodes}
 use Rattle.table.proofs.Nodes.{kind-node, operand-node, length-nodes}
 use Rattle.table.proofs.Cutting.{length-nodesOf}
@@ -201,21 +201,3 @@ accepted t n p h = go (headerOf t) refl h
     go : (c : Checked) → headerOf t ≡ c → tableAfter c t ≡ holds n p → Holds t n p
     go (Refused w) e h = absurd (never-holds w n p h)
     go (Accepted m) e h = whole m e (readFrom deepest 0 0 (nodesOf t m)) refl h
-
--- ---- Check's answer
--- an accepted table holds a statement
-pub check-accepted : (t : List ℕ) (n : ℕ) → checkOf t ≡ Accepted n → (p : Statement) × (tableOf t ≡ holds n p)
-unfolding checkOf answerOf
-check-accepted t n h = go (tableOf t) refl h
-  where
-    go : (a : Table) → tableOf t ≡ a → answerOf a ≡ Accepted n → (p : Statement) × (tableOf t ≡ holds n p)
-    go (Table.refused w) e h = absurd (never-accepted w n h)
-    go (holds m p) e h = (p, e ∙ ap (λ (k : ℕ). holds k p) (let q : m ≡ n = cc in q))
-
-pub check-refused : (t : List ℕ) (w : ℕ) → checkOf t ≡ Refused w → tableOf t ≡ Table.refused w
-unfolding checkOf answerOf
-check-refused t w h = go (tableOf t) refl h
-  where
-    go : (a : Table) → tableOf t ≡ a → answerOf a ≡ Refused w → tableOf t ≡ Table.refused w
-    go (Table.refused v) e h = e ∙ ap Table.refused (let q : v ≡ w = cc in q)
-    go (holds m p) e h = absurd (never-accepted w m (sym h))

@@ -7,10 +7,10 @@ use native.Mathlib.Nat.{zero-add, suc-add, add-comm, add-mul, mul-assoc, mul-com
 use native.Mathlib.Numerals.{one-add}
 use native.Mathlib.Omega.{arith}
 use lib.Arith.{digits-lt}
-use lib.Pow.{shr-shr, field, mod-mod-pow, mod-pow-add, high, low, pow-pos, pow-mono}
+use lib.Pow.{pow-add, shr-shr, field, mod-mod-pow, mod-pow-add, high, low, pow-pos, pow-mono}
 use lib.ListN.{length, getD, take, drop, replicate, length-append, length-replicate, length-take, length-drop, take-append-drop}
 use lib.Seq.{take-at, drop-at, length-take-le, getD-drop, take-all, take-append-le, drop-append-le}
-use Rattle.table.specs.Bits.{bits, numberAfter, number, bitsOf, bytesFrom, padded, bytesOf, Below}
+use Rattle.table.specs.Bits.{bits, numberAfter, number, bitsOf, bytesFrom, bytes, padded, bytesOf, Below}
 
 -- ---- A field
 
@@ -159,17 +159,31 @@ bytesFrom-append (suc k) j l m e =
     (ap (λ (x : List ℕ). number (take 8 l) ∷ x) (bytesFrom-append k j (drop 8 l) m (length-drop 8 l ∙ omega arith)))
 
 -- the bytes of a field of whole bytes, from the most significant
-pub bytesFrom-field : (n v : ℕ) → bytesFrom (suc n) (bits (8 * suc n) v) ≡ v / 2 ^ (8 * n) % 256 ∷ bytesFrom n (bits (8 * n) v)
+pub bytes-suc : (n v : ℕ) → bytes (suc n) v ≡ v / 2 ^ (8 * n) % 256 ∷ bytes n v
 unfolding bytesFrom
-bytesFrom-field n v =
+bytes-suc n v =
     let e : bits (8 * suc n) v ≡ bits 8 (v / 2 ^ (8 * n)) ++ bits (8 * n) v = ap (λ (w : ℕ). bits w v) (omega arith) ∙ bits-split 8 (8 * n) v in
     rw (e, take-at (bits 8 (v / 2 ^ (8 * n))) (bits (8 * n) v) 8 (length-bits 8 (v / 2 ^ (8 * n))), drop-at (bits 8 (v / 2 ^ (8 * n))) (bits (8 * n) v) 8 (length-bits 8 (v / 2 ^ (8 * n))), number-bits 8 (v / 2 ^ (8 * n)))
 
-pub getD-bytesFrom-field : (n v i : ℕ) → i < n → getD (bytesFrom n (bits (8 * n) v)) i 0 ≡ v / 2 ^ (8 * (n - i - 1)) % 256
-getD-bytesFrom-field zero v i h = absurd (omega arith)
-getD-bytesFrom-field (suc n) v zero h = ap (λ (l : List ℕ). getD l 0 0) (bytesFrom-field n v) ∙ ap (λ (k : ℕ). v / 2 ^ (8 * k) % 256) (omega arith)
-getD-bytesFrom-field (suc n) v (suc i) h =
-    ap (λ (l : List ℕ). getD l (suc i) 0) (bytesFrom-field n v) ∙ getD-bytesFrom-field n v i (omega arith) ∙ ap (λ (k : ℕ). v / 2 ^ (8 * k) % 256) (omega arith)
+pub getD-bytes : (n v i : ℕ) → i < n → getD (bytes n v) i 0 ≡ v / 2 ^ (8 * (n - i - 1)) % 256
+getD-bytes zero v i h = absurd (omega arith)
+getD-bytes (suc n) v zero h = ap (λ (l : List ℕ). getD l 0 0) (bytes-suc n v) ∙ ap (λ (k : ℕ). v / 2 ^ (8 * k) % 256) (omega arith)
+getD-bytes (suc n) v (suc i) h =
+    ap (λ (l : List ℕ). getD l (suc i) 0) (bytes-suc n v) ∙ getD-bytes n v i (omega arith) ∙ ap (λ (k : ℕ). v / 2 ^ (8 * k) % 256) (omega arith)
+
+pub length-bytes : (w n : ℕ) → length (bytes w n) ≡ w
+length-bytes w n = length-bytesFrom w (bits (8 * w) n)
+
+bytes-width : (w : ℕ) → 2 ^ (8 * w) ≡ 256 ^ w
+bytes-width zero = refl
+bytes-width (suc w) =
+    ap (λ (k : ℕ). 2 ^ k) (omega arith) ∙ pow-add 2 (8 * w) 8 ∙ ap (λ (n : ℕ). n * 256) (bytes-width w) ∙ sym (pow-suc 256 w)
+
+-- a number read from its w bytes is the number
+pub number-bytes : (w n : ℕ) → n < 256 ^ w → number (bitsOf (bytes w n)) ≡ n
+number-bytes w n h =
+    ap number (bitsOf-bytesFrom w (bits (8 * w) n) (length-bits (8 * w) n) (below-bits (8 * w) n))
+    ∙ number-field (8 * w) n (subst (λ (m : ℕ). n < m) (sym (bytes-width w)) h)
 
 -- ---- Padded to whole bytes
 
@@ -211,7 +225,7 @@ bytesOf-append k l m e =
     ap (λ (n : ℕ). bytesFrom n (padded (l ++ m))) count ∙ ap (bytesFrom (k + length (padded m) / 8)) whole ∙ bytesFrom-append k (length (padded m) / 8) l (padded m) e
 
 -- a field of any width, pushed up to whole bytes
-pub bytesOf-field : (w v : ℕ) → bytesOf (bits w v) ≡ bytesFrom ((w + 7) / 8) (bits (8 * ((w + 7) / 8)) (v * 2 ^ (8 * ((w + 7) / 8) - w)))
+pub bytesOf-field : (w v : ℕ) → bytesOf (bits w v) ≡ bytes ((w + 7) / 8) (v * 2 ^ (8 * ((w + 7) / 8) - w))
 unfolding bytesOf padded
 bytesOf-field w v =
     let pad : ℕ = 8 * ((w + 7) / 8) - w in

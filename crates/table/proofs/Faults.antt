@@ -8,9 +8,9 @@ use lib.Dec.{eqb, ltb, eqb·suc-zero}
 use borrow.Author.Tests.{ltb-false, lt-ltb, le-ltb, eqb-false, eq-eqb, ne-eqb}
 use Rattle.sets.specs.Set.{has}
 use Rattle.sets.proofs.Booleans.{or-neither}
-use Rattle.table.specs.declared.Row.{Row}
 use Rattle.table.specs.Kinds.{kinds, kindOf, rowOf}
 use Rattle.table.specs.Reading.{faultOf}
+use Rattle.table.specs.inner.Loading.{fieldFault}
 use Rattle.table.specs.Writing.{node}
 use Rattle.table.proofs.Nodes.{kind-node, operand-node, node-split}
 
@@ -94,68 +94,46 @@ sound-fault left tries used x loop = rw eqb·suc-zero
 sound-fault left tries used x try = rw eqb·suc-zero
 
 -- ---- The tests one after the other, on a node's kind, operand and row
-abbrev firstTwo : Bool → Bool → ℕ
-firstTwo b c = cond b 7 (cond c 8 0)
-
-first-two : (b c : Bool) (range depth : ℕ) → range ≡ cond b 7 0 → depth ≡ cond c 8 0 → cond (eqb range 0) depth range ≡ firstTwo b c
-first-two true c range depth e f = rw e
-first-two false c range depth e f = rw (e, f)
-
-some-first : (b c d e : Bool) → (firstTwo b c ≡ 0 → ⊥) → firstTwo b c ≡ firstOf false b c d e
-some-first true c d e n = refl
-some-first false true d e n = refl
-some-first false false d e n = absurd (n refl)
-
-none-first : (b c d e : Bool) → firstTwo b c ≡ 0 → firstOf false b c d e ≡ firstOf false false false d e
-none-first true c d e z = absurd (omega arith)
-none-first false true d e z = absurd (omega arith)
-none-first false false d e z = refl
-
 pub fault-kind : (left tries used x k : ℕ) → k ≡ x / 64 → 10 < k → 6 ≡ faultOf left tries used x
 unfolding faultOf
 fault-kind left tries used x k e h = rw (← e, lt-ltb 10 k h)
 
--- the kind k is known; the operand o and the row r gave `range`, the depth that is left gave `depth`, and `why` is the first of
--- the two that is a fault
-pub record Early (left x k o : ℕ) (r : Row) (range depth why : ℕ) : Type 0 where
+-- the node x has the known kind k and the operand o, and `fault` is what its range and its depth give
+pub record Fields (left x k o fault : ℕ) : Type 0 where
   pub kind : k ≡ x / 64
   pub known : k ≤ 10
   pub operand : o ≡ x % 64
-  pub row : r ≡ rowOf (kindOf k)
-  pub ranged : range ≡ cond (ltb o (r .least) || ltb (r .most) o) 7 0
-  pub deep : depth ≡ cond (eqb left 0) 8 0
-  pub first : why ≡ cond (eqb range 0) depth range
+  pub first : fault ≡ fieldFault left o (rowOf (kindOf k))
 
-module _ (tries used : ℕ) {left x k o : ℕ} {r : Row} {range depth why : ℕ} (e : Early left x k o r range depth why) where
+-- the first two tests, and then one more
+then-one : (b c d : Bool) (w : ℕ) → cond (eqb (cond b 7 (cond c 8 0)) 0) (cond d w 0) (cond b 7 (cond c 8 0)) ≡ cond b 7 (cond c 8 (cond d w 0))
+then-one true c d w = refl
+then-one false true d w = refl
+then-one false false d w = refl
+
+module _ (tries used : ℕ) {left x k o fault : ℕ} (f : Fields left x k o fault) where
   abbrev outside : Bool
-  outside = ltb o (r .least) || ltb (r .most) o
+  outside = ltb o (rowOf (kindOf k) .least) || ltb (rowOf (kindOf k) .most) o
 
-  abbrev exits : Bool
-  exits = eqb k 4 && ltb tries o
-
-  abbrev pauses : Bool
-  pauses = eqb k 1 && has used o
-
-  tested : faultOf left tries used x ≡ firstOf false outside (eqb left 0) exits pauses
+  tested : faultOf left tries used x ≡ firstOf false outside (eqb left 0) (eqb k 4 && ltb tries o) (eqb k 1 && has used o)
   unfolding faultOf
-  tested = rw (← e .kind, ← e .operand, ← e .row, le-ltb 10 k (e .known))
+  tested = rw (← f .kind, ← f .operand, le-ltb 10 k (f .known))
 
-  early : why ≡ firstTwo outside (eqb left 0)
-  early = e .first ∙ first-two outside (eqb left 0) range depth (e .ranged) (e .deep)
+  pub fault-other : (k ≡ 1 → ⊥) → (k ≡ 4 → ⊥) → fault ≡ faultOf left tries used x
+  unfolding fieldFault
+  fault-other a b = f .first ∙ sym (tested ∙ rw (ne-eqb k 4 b, ne-eqb k 1 a))
 
-  pub fault-early : (why ≡ 0 → ⊥) → why ≡ faultOf left tries used x
-  fault-early n = early ∙ some-first outside (eqb left 0) exits pauses (λ z. n (early ∙ z)) ∙ sym tested
+  -- an exit's level, and a pause's label, are looked at where there is no fault before
+  pub fault-exit : k ≡ 4 → (level why : ℕ) → level ≡ cond (ltb tries o) 9 0 → why ≡ cond (eqb fault 0) level fault → why ≡ faultOf left tries used x
+  unfolding fieldFault
+  fault-exit e level why h i =
+      let other : k ≡ 1 → ⊥ = λ z. omega arith in
+      let all : faultOf left tries used x ≡ cond outside 7 (cond (eqb left 0) 8 (cond (ltb tries o) 9 0)) = tested ∙ rw (eq-eqb k 4 e, ne-eqb k 1 other) in
+      rw (all, i, h, f .first) (then-one outside (eqb left 0) (ltb tries o) 9)
 
-  module _ (z : why ≡ 0) where
-    later : faultOf left tries used x ≡ firstOf false false false exits pauses
-    later = tested ∙ none-first outside (eqb left 0) exits pauses (sym early ∙ z)
-
-    pub fault-level : k ≡ 4 → cond (ltb tries o) 9 0 ≡ faultOf left tries used x
-    fault-level h = rw (later, h)
-
-    module _ (inner : k ≡ 4 → ⊥) where
-      pub fault-label : k ≡ 1 → cond (has used o) 10 0 ≡ faultOf left tries used x
-      fault-label h = rw (later, ne-eqb k 4 inner, eq-eqb k 1 h)
-
-      pub fault-none : (k ≡ 1 → ⊥) → 0 ≡ faultOf left tries used x
-      fault-none h = rw (later, ne-eqb k 4 inner, ne-eqb k 1 h)
+  pub fault-pause : k ≡ 1 → (label why : ℕ) → label ≡ cond (has used o) 10 0 → why ≡ cond (eqb fault 0) label fault → why ≡ faultOf left tries used x
+  unfolding fieldFault
+  fault-pause e label why h i =
+      let other : k ≡ 4 → ⊥ = λ z. omega arith in
+      let all : faultOf left tries used x ≡ cond outside 7 (cond (eqb left 0) 8 (cond (has used o) 10 0)) = tested ∙ rw (ne-eqb k 4 other, eq-eqb k 1 e) in
+      rw (all, i, h, f .first) (then-one outside (eqb left 0) (has used o) 10)

@@ -13,4 +13,5 @@ pub mod Making
 mod Packing
 pub mod ReadBack
 pub mod RoundTrip
+pub mod Refusals
 pub mod Cases

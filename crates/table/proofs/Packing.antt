@@ -9,21 +9,21 @@ use lib.ListN.{length, getD, take, drop, set, length-drop, take-append-drop}
 use lib.Seq.{paste, paste-suc, take-paste, drop-paste, length-paste, take-suc, take-all, drop-drop}
 use lib.Arith.{digits-lt}
 use lib.Pow.{pow-add, shl-exact}
-use Rattle.table.specs.Bits.{bits, bytesFrom, bytesOf, Below}
+use Rattle.table.specs.Bits.{bits, bytes, bytesOf, Below}
 use Rattle.table.specs.Reading.{lengthOf}
 use Rattle.table.specs.Writing.{nodeBits, writeNodes}
 use Rattle.table.specs.inner.Making.{Gathered, Writable}
 use Rattle.table.proofs.Fields.{nodeBits-append, length-writeNodes}
-use Rattle.table.proofs.Bits.{length-bits, bits-append, length-bytesFrom, bytesOf-append, bytesOf-field, getD-bytesFrom-field}
+use Rattle.table.proofs.Bits.{length-bits, bits-append, length-bytes, bytesOf-append, bytesOf-field, getD-bytes}
 
 -- the byte that a turn of put_bytes stores
 pub put-byte : (out : List ℕ) (at word count i : ℕ) → i < count → at + count ≤ length out
-    → set (paste out at (bytesFrom count (bits (8 * count) word)) i) (at + i) (word / 2 ^ (8 * (count - i - 1)) % 256)
-    ≡ paste out at (bytesFrom count (bits (8 * count) word)) (i + 1)
+    → set (paste out at (bytes count word) i) (at + i) (word / 2 ^ (8 * (count - i - 1)) % 256)
+    ≡ paste out at (bytes count word) (i + 1)
 put-byte out at word count i h r =
-    let B : List ℕ = bytesFrom count (bits (8 * count) word) in
-    ap (set (paste out at B i) (at + i)) (sym (getD-bytesFrom-field count word i h))
-    ∙ paste-suc out at B i 0 (omega arith) (omega (arith, length-bytesFrom count (bits (8 * count) word)))
+    let B : List ℕ = bytes count word in
+    ap (set (paste out at B i) (at + i)) (sym (getD-bytes count word i h))
+    ∙ paste-suc out at B i 0 (omega arith) (omega (arith, length-bytes count word))
     ∙ ap (paste out at B) (sym (add-one i))
 
 -- ---- Nodes as one number
@@ -66,7 +66,7 @@ pub record Written (xs out₀ out : List ℕ) (at i : ℕ) : Type 0 where
 drop-rest : {xs out₀ out : List ℕ} {at i : ℕ} → Written xs out₀ out at i → (k : ℕ) → drop (at + k) out ≡ drop (at + k) out₀
 drop-rest {out₀ = out₀} {out = out} {at = at} P k = sym (drop-drop k at out) ∙ ap (drop k) (P .rest) ∙ drop-drop k at out₀
 
-header : (xs : List ℕ) → length xs < 4096 → writeNodes xs ≡ bytesFrom 2 (bits 16 (4096 + length xs)) ++ bytesOf (nodeBits xs)
+header : (xs : List ℕ) → length xs < 4096 → writeNodes xs ≡ bytes 2 (4096 + length xs) ++ bytesOf (nodeBits xs)
 unfolding writeNodes
 header xs h =
     ap bytesOf (sym (append-assoc (bits 4 1) (bits 12 (length xs)) (nodeBits xs)) ∙ ap (λ (l : List ℕ). l ++ nodeBits xs) (bits-append 4 12 1 (length xs) (omega arith)))
@@ -74,10 +74,10 @@ header xs h =
 
 module _ (out : List ℕ) (at word count : ℕ) (room : at + count ≤ length out) where
   abbrev field : List ℕ
-  field = bytesFrom count (bits (8 * count) word)
+  field = bytes count word
 
   count-is : length field ≡ count
-  count-is = length-bytesFrom count (bits (8 * count) word)
+  count-is = length-bytes count word
 
   take-field : take (at + count) (paste out at field count) ≡ take at out ++ field
   take-field =
@@ -94,7 +94,7 @@ module _ (out : List ℕ) (at word count : ℕ) (room : at + count ≤ length ou
   same-field = length-paste out at field count room (omega (arith, count-is))
 
 pub written-none : (xs out : List ℕ) → Writable xs (length out)
-    → Written xs out (paste out 0 (bytesFrom 2 (bits 16 (bitOr (length xs) 4096))) 2) 2 0
+    → Written xs out (paste out 0 (bytes 2 (bitOr (length xs) 4096)) 2) 2 0
 unfolding lengthOf
 written-none xs out W =
     let room : 0 + 2 ≤ length out = omega (arith, W .fits) in
@@ -119,11 +119,11 @@ written-from {out₀ = out₀} {out₁ = out₁} {at = at} P Q =
     record { done = Q .done; rest = Q .rest ∙ rest; same = Q .same ∙ P .same; within = Q .within; past = Q .past; place = Q .place }
 
 pub written-more : (xs out₀ out : List ℕ) (at i word : ℕ) → Writable xs (length out₀) → Written xs out₀ out at i → 4 ≤ length xs - i
-    → Gathered (take 4 (drop i xs)) 4 word → Written xs out₀ (paste out at (bytesFrom 5 (bits 40 word)) 5) (at + 5) (i + 4)
+    → Gathered (take 4 (drop i xs)) 4 word → Written xs out₀ (paste out at (bytes 5 word) 5) (at + 5) (i + 4)
 unfolding lengthOf
 written-more xs out₀ out at i word W P four G =
     let room : at + 5 ≤ length out = omega (arith, W .fits, P .place, P .same) in
-    let five : List ℕ = bytesFrom 5 (bits 40 word) in
+    let five : List ℕ = bytes 5 word in
     let next : nodeBits (drop i xs) ≡ bits 40 word ++ nodeBits (drop (i + 4) xs) =
     ap nodeBits (sym (take-append-drop 4 (drop i xs))) ∙ nodeBits-append (take 4 (drop i xs)) (drop 4 (drop i xs))
     ∙ rw (← G .fields, drop-drop 4 i xs) in
@@ -145,22 +145,22 @@ written-more xs out₀ out at i word W P four G =
 pub written-all : (xs out₀ out : List ℕ) (at i word total : ℕ) → Writable xs (length out₀) → Written xs out₀ out at i → length xs - i < 4
     → Gathered (take (length xs - i) (drop i xs)) (length xs - i) word → total ≡ lengthOf (length xs)
     → (total ≡ length (writeNodes xs))
-    × (paste out at (bytesFrom (total - at) (bits (8 * (total - at)) (word * 2 ^ (8 * (total - at) - 10 * (length xs - i)) % 18446744073709551616))) (total - at)
+    × (paste out at (bytes (total - at) (word * 2 ^ (8 * (total - at) - 10 * (length xs - i)) % 18446744073709551616)) (total - at)
     ≡ writeNodes xs ++ drop total out₀)
 unfolding lengthOf
 written-all xs out₀ out at i word total W P few G e =
     let left : ℕ = length xs - i in
     let size : ℕ = total - at in
-    let bytes : size ≡ (10 * left + 7) / 8 = omega (arith, P .place) in
+    let whole : size ≡ (10 * left + 7) / 8 = omega (arith, P .place) in
     let end : at + size ≡ total = omega (arith, P .place) in
     let room : at + size ≤ length out = omega (arith, W .fits, P .same) in
     let pad : ℕ = 8 * size - 10 * left in
     let fits : word * 2 ^ pad % 18446744073709551616 ≡ word * 2 ^ pad = shl-exact (10 * left) pad 64 (G .small) (omega arith) in
-    let last : bytesOf (nodeBits (drop i xs)) ≡ bytesFrom size (bits (8 * size) (word * 2 ^ pad)) =
+    let last : bytesOf (nodeBits (drop i xs)) ≡ bytes size (word * 2 ^ pad) =
     ap (λ (l : List ℕ). bytesOf (nodeBits l)) (sym (take-all left (drop i xs) (simp length-drop (omega arith)))) ∙ ap bytesOf (sym (G .fields))
-    ∙ bytesOf-field (10 * left) word ∙ ap (λ (n : ℕ). bytesFrom n (bits (8 * n) (word * 2 ^ (8 * n - 10 * left)))) (sym bytes) in
-    let front : take at out ++ bytesFrom size (bits (8 * size) (word * 2 ^ pad)) ≡ writeNodes xs = ap (λ (l : List ℕ). take at out ++ l) (sym last) ∙ P .done in (
+    ∙ bytesOf-field (10 * left) word ∙ ap (λ (n : ℕ). bytes n (word * 2 ^ (8 * n - 10 * left))) (sym whole) in
+    let front : take at out ++ bytes size (word * 2 ^ pad) ≡ writeNodes xs = ap (λ (l : List ℕ). take at out ++ l) (sym last) ∙ P .done in (
       e ∙ sym (length-writeNodes xs),
-      ap (λ (v : ℕ). paste out at (bytesFrom size (bits (8 * size) v)) size) fits ∙ paste-field out at (word * 2 ^ pad) size room
+      ap (λ (v : ℕ). paste out at (bytes size v) size) fits ∙ paste-field out at (word * 2 ^ pad) size room
           ∙ rw (front, drop-rest P size, end),
     )

@@ -1,19 +1,24 @@
 -- The statement at a place of decoded nodes: where the nodes of a statement stand from a place on, it is that statement, and
--- the next place is the one after them. So on an accepted table it is the statement that was read.
-use mathlib.Core.Path.{_≡_, sym, ap, _∙_}
+-- the next place is the one after them. So on an accepted table it is the statement that was read. And what a walk over the
+-- nodes meets at each step: the statement by the kind of the node, the place after it, and that more depth changes nothing.
+use mathlib.Core.Path.{_≡_, refl, sym, ap, _∙_, subst}
+use mathlib.Core.Logic.{_≢_, _⊎_, inl, inr}
 use mathlib.Core.List.{List, _∷_, _++_, append-assoc}
-use Prim.Native.Nat.{ℕ, zero, suc, _+_, _-_, _≤_, _<_}
-use native.Mathlib.Numerals.{add-one}
-use native.Mathlib.Nat.{zero-add}
+use Prim.Native.Nat.{ℕ, zero, suc, _+_, _-_, _≤_, _<_, zero-le}
+use native.Mathlib.Numerals.{add-one, sub-one}
+use native.Mathlib.Nat.{zero-add, le-trans}
+use native.Mathlib.Decide.{decLt}
 use native.Mathlib.Omega.{arith}
-use lib.ListN.{length, drop, getD, length-drop}
+use lib.Dec.{ltb}
+use lib.ListN.{length, drop, getD, replicate, length-drop}
 use lib.Seq.{drop-cons, drop-drop, drop-append-seam}
-use borrow.Author.Tests.{lt-ltb}
+use borrow.Author.Tests.{lt-ltb, le-ltb, ltb-true}
+use Rattle.sets.proofs.Booleans.{by-cond}
 use Rattle.esterel.specs.Statement.{Statement, nothing, pause, gotopause, emit, exit, signal, present, sequence, parallel, loop, try, size, depth, Valid}
-use Rattle.table.specs.Kinds.{kinds, kindOf}
-use Rattle.table.specs.Reading.{nodesOf, deepest, holds, tableOf}
+use Rattle.table.specs.Kinds.{Kind, kinds, kindOf, rowOf}
+use Rattle.table.specs.Reading.{kindOfNode, operandOf, nodesOf, deepest, holds, tableOf}
 use Rattle.table.specs.Writing.{node, nodes}
-use Rattle.table.specs.inner.Places.{placed, placeOne, placeTwo, placeKind, statementAt}
+use Rattle.table.specs.inner.Places.{Placed, placed, placeOne, placeTwo, placeKind, statementAt}
 use Rattle.table.proofs.Nodes.{kind-node, operand-node, length-nodes, depth-positive}
 use Rattle.table.proofs.Accepted.{accepted}
 
@@ -113,3 +118,187 @@ placed-front t n p ys h =
     let a = accepted t n p h in
     placed-nodes (nodesOf t n ++ ys) deepest p 0 ys (ap (λ (l : List ℕ). l ++ ys) (a .nodes-are)) (a .deep) (valid-narrow 0 p (a .valid))
     ∙ ap (placed p) (zero-add (size p) ∙ a .count)
+
+-- ---- A node that is there
+-- a node of kind k at a place, with some depth left for it
+pub record Node (left : ℕ) (nodes : List ℕ) (at k : ℕ) : Type 0 where
+  pub some : left ≢ 0
+  pub inside : at < length nodes
+  pub kind : kindOfNode (getD nodes at 0) ≡ k
+
+module _ {left : ℕ} {nodes : List ℕ} {at k : ℕ} (n : Node left nodes at k) where
+  pub placed-node : statementAt left nodes at ≡ placeKind (kindOf k) (operandOf (getD nodes at 0)) (statementAt (left - 1) nodes) (at + 1)
+  unfolding statementAt
+  placed-node = go left (n .some) ∙ ap (λ (k : ℕ). placeKind (kindOf k) (operandOf (getD nodes at 0)) (statementAt (left - 1) nodes) (at + 1)) (n .kind)
+    where
+      go : (l : ℕ) → l ≢ 0
+          → statementAt l nodes at ≡ placeKind (kindOf (kindOfNode (getD nodes at 0))) (operandOf (getD nodes at 0)) (statementAt (l - 1) nodes) (at + 1)
+      go zero f = absurd (f refl)
+      go (suc m) f = rw (lt-ltb at (length nodes) (n .inside), sub-one (suc m))
+
+-- past the last node, or too deep
+pub placed-none : (left : ℕ) (nodes : List ℕ) (at : ℕ) → (left ≡ 0) ⊎ (length nodes ≤ at) → statementAt left nodes at ≡ placed Statement.nothing at
+unfolding statementAt
+placed-none zero nodes at h = refl
+placed-none (suc m) nodes at (inl e) = absurd (omega arith)
+placed-none (suc m) nodes at (inr h) = rw (le-ltb at (length nodes) h)
+
+all-same : {A : Type 0} (a : A) (n j : ℕ) → getD (replicate n a) j a ≡ a
+all-same a zero j = refl
+all-same a (suc n) zero = refl
+all-same a (suc n) (suc j) = all-same a n j
+
+pub kind-unused : (k : ℕ) → 11 ≤ k → kindOf k ≡ Kind.unused
+unfolding kindOf kinds
+kind-unused k h =
+    let e : k ≡ suc (suc (suc (suc (suc (suc (suc (suc (suc (suc (suc (k - 11))))))))))) = omega arith in
+    ap kindOf e ∙ all-same Kind.unused 5 (k - 11)
+
+-- a number that is at least m and is not m
+pub past : (m k : ℕ) → m ≤ k → (k ≡ m → ⊥) → suc m ≤ k
+past m k h f = omega arith
+
+-- none of the kinds 0 to 10
+
+pub above-ten : (k : ℕ) → (k ≡ 0 → ⊥) → (k ≡ 1 → ⊥) → (k ≡ 2 → ⊥) → (k ≡ 3 → ⊥) → (k ≡ 4 → ⊥) → (k ≡ 5 → ⊥) → (k ≡ 6 → ⊥) → (k ≡ 7 → ⊥) → (k ≡ 8 → ⊥) → (k ≡ 9 → ⊥) → (k ≡ 10 → ⊥) → 11 ≤ k
+above-ten k n0 n1 n2 n3 n4 n5 n6 n7 n8 n9 n10 =
+    past 10 k (past 9 k (past 8 k (past 7 k (past 6 k (past 5 k (past 4 k (past 3 k (past 2 k (past 1 k (past 0 k zero-le n0) n1) n2) n3) n4) n5) n6) n7) n8) n9) n10
+
+-- ---- The place after a statement
+-- the place after n statements that stand one after the other
+unfoldable pub follow : ℕ → (ℕ → Placed) → ℕ → ℕ
+follow zero child at = at
+follow (suc n) child at = follow n child (child at .next)
+
+pub place-next : (k : Kind) (o : ℕ) (child : ℕ → Placed) (at : ℕ) → placeKind k o child at .next ≡ follow (rowOf k .children) child at
+unfolding placeKind rowOf follow
+place-next Kind.nothing o child at = refl
+place-next Kind.pause o child at = refl
+place-next Kind.gotopause o child at = refl
+place-next Kind.emit o child at = refl
+place-next Kind.exit o child at = refl
+place-next Kind.signal o child at = refl
+place-next Kind.present o child at = refl
+place-next Kind.sequence o child at = refl
+place-next Kind.parallel o child at = refl
+place-next Kind.loop o child at = refl
+place-next Kind.try o child at = refl
+place-next Kind.unused o child at = refl
+
+pub follow-forward : (child : ℕ → Placed) → ((at : ℕ) → at ≤ child at .next) → (n at : ℕ) → at ≤ follow n child at
+unfolding follow
+follow-forward child h zero at = omega arith
+follow-forward child h (suc n) at = le-trans (h at) (follow-forward child h n (child at .next))
+
+follow-within : (l : ℕ) (child : ℕ → Placed) → ((at : ℕ) → at ≤ l → child at .next ≤ l) → (n at : ℕ) → at ≤ l → follow n child at ≤ l
+unfolding follow
+follow-within l child h zero at b = b
+follow-within l child h (suc n) at b = follow-within l child h n (child at .next) (h at b)
+
+module _ (nodes : List ℕ) where
+  pub next-forward : (left at : ℕ) → at ≤ statementAt left nodes at .next
+  unfolding statementAt
+  next-forward zero at = omega arith
+  next-forward (suc left) at =
+      by-cond (λ (p : Placed). at ≤ p .next) (ltb at (length nodes)) _ _
+      (λ h. let k = kindOf (kindOfNode (getD nodes at 0)) in
+      let f = follow-forward (statementAt left nodes) (next-forward left) (rowOf k .children) (at + 1) in
+      let e = place-next k (operandOf (getD nodes at 0)) (statementAt left nodes) (at + 1) in omega arith)
+      (λ h. omega arith)
+
+  pub next-within : (left at : ℕ) → at ≤ length nodes → statementAt left nodes at .next ≤ length nodes
+  unfolding statementAt
+  next-within zero at b = b
+  next-within (suc left) at b =
+      by-cond (λ (p : Placed). p .next ≤ length nodes) (ltb at (length nodes)) _ _
+      (λ h. let l = ltb-true at (length nodes) h in
+      let k = kindOf (kindOfNode (getD nodes at 0)) in
+      let f = follow-within (length nodes) (statementAt left nodes) (next-within left) (rowOf k .children) (at + 1) (omega arith) in
+      let e = place-next k (operandOf (getD nodes at 0)) (statementAt left nodes) (at + 1) in omega arith)
+      (λ h. b)
+
+pub size-positive : (p : Statement) → 1 ≤ size p
+unfolding size
+size-positive nothing = omega arith
+size-positive (pause l) = omega arith
+size-positive (gotopause l) = omega arith
+size-positive (emit S) = omega arith
+size-positive (exit d) = omega arith
+size-positive (signal S p) = omega arith
+size-positive (present S p q) = omega arith
+size-positive (sequence p q) = omega arith
+size-positive (parallel p q) = omega arith
+size-positive (loop p) = omega arith
+size-positive (try p) = omega arith
+
+-- by a depth of at least 1
+node-there : (xs : List ℕ) (left at : ℕ) → at < length xs
+    → statementAt (suc left) xs at ≡ placeKind (kindOf (kindOfNode (getD xs at 0))) (operandOf (getD xs at 0)) (statementAt left xs) (at + 1)
+unfolding statementAt
+node-there xs left at h = rw (lt-ltb at (length xs) h)
+
+none-there : (xs : List ℕ) (left at : ℕ) → length xs ≤ at → statementAt (suc left) xs at ≡ placed nothing at
+none-there xs left at h = placed-none (suc left) xs at (inr h)
+
+-- ---- A statement has at least as many nodes as it takes places
+place-short : (k : Kind) (o : ℕ) (child : ℕ → Placed) (at : ℕ) → ((i : ℕ) → child i .next ≤ i + size (child i .statement))
+    → placeKind k o child (at + 1) .next ≤ at + size (placeKind k o child (at + 1) .statement)
+unfolding placeKind size
+place-short Kind.nothing o child at h = omega arith
+place-short Kind.pause o child at h = omega arith
+place-short Kind.gotopause o child at h = omega arith
+place-short Kind.emit o child at h = omega arith
+place-short Kind.exit o child at h = omega arith
+place-short Kind.signal o child at h = let a = h (at + 1) in omega arith
+place-short Kind.present o child at h = let a = h (at + 1) in let b = h (child (at + 1) .next) in omega arith
+place-short Kind.sequence o child at h = let a = h (at + 1) in let b = h (child (at + 1) .next) in omega arith
+place-short Kind.parallel o child at h = let a = h (at + 1) in let b = h (child (at + 1) .next) in omega arith
+place-short Kind.loop o child at h = let a = h (at + 1) in omega arith
+place-short Kind.try o child at h = let a = h (at + 1) in omega arith
+place-short Kind.unused o child at h = omega arith
+
+pub next-short : (xs : List ℕ) (left at : ℕ) → statementAt left xs at .next ≤ at + size (statementAt left xs at .statement)
+unfolding statementAt
+next-short xs zero at = omega arith
+next-short xs (suc left) at = go (next-short xs left) (decLt at (length xs))
+  where
+    go : ((i : ℕ) → statementAt left xs i .next ≤ i + size (statementAt left xs i .statement)) → Dec (at < length xs)
+        → statementAt (suc left) xs at .next ≤ at + size (statementAt (suc left) xs at .statement)
+    go f (yes h) =
+        subst (λ (p : Placed). p .next ≤ at + size (p .statement)) (sym (node-there xs left at h))
+        (place-short (kindOf (kindOfNode (getD xs at 0))) (operandOf (getD xs at 0)) (statementAt left xs) at f)
+    go f (no h) = subst (λ (p : Placed). p .next ≤ at + size (p .statement)) (sym (none-there xs left at (omega arith))) (omega arith)
+
+-- ---- More depth does not change what is not too deep
+pub two-same : (c : Statement → Statement → Statement) (f g : ℕ → Placed) (at : ℕ) → g at ≡ f at → g (f at .next) ≡ f (f at .next) → placeTwo c g (g at) ≡ placeTwo c f (f at)
+two-same c f g at a b = ap (placeTwo c g) a ∙ ap (placeOne (c (f at .statement))) b
+
+place-same : (k : Kind) (o : ℕ) (f g : ℕ → Placed) (left at : ℕ) → ((i : ℕ) → depth (f i .statement) ≤ left → g i ≡ f i)
+    → depth (placeKind k o f at .statement) ≤ suc left → placeKind k o g at ≡ placeKind k o f at
+unfolding placeKind depth
+place-same Kind.nothing o f g left at h d = refl
+place-same Kind.pause o f g left at h d = refl
+place-same Kind.gotopause o f g left at h d = refl
+place-same Kind.emit o f g left at h d = refl
+place-same Kind.exit o f g left at h d = refl
+place-same Kind.signal o f g left at h d = ap (placeOne (signal o)) (h at (omega arith))
+place-same Kind.present o f g left at h d = two-same (present o) f g at (h at (omega arith)) (h (f at .next) (omega arith))
+place-same Kind.sequence o f g left at h d = two-same sequence f g at (h at (omega arith)) (h (f at .next) (omega arith))
+place-same Kind.parallel o f g left at h d = two-same parallel f g at (h at (omega arith)) (h (f at .next) (omega arith))
+place-same Kind.loop o f g left at h d = ap (placeOne loop) (h at (omega arith))
+place-same Kind.try o f g left at h d = ap (placeOne try) (h at (omega arith))
+place-same Kind.unused o f g left at h d = refl
+
+pub deeper-same : (xs : List ℕ) (left at : ℕ) → depth (statementAt left xs at .statement) ≤ left → statementAt (suc left) xs at ≡ statementAt left xs at
+deeper-same xs zero at d = absurd (let p = depth-positive (statementAt 0 xs at .statement) in omega arith)
+deeper-same xs (suc left) at d = go (deeper-same xs left) (decLt at (length xs))
+  where
+    go : ((i : ℕ) → depth (statementAt left xs i .statement) ≤ left → statementAt (suc left) xs i ≡ statementAt left xs i) → Dec (at < length xs)
+        → statementAt (suc (suc left)) xs at ≡ statementAt (suc left) xs at
+    go f (yes h) =
+        let e = node-there xs left at h in
+        node-there xs (suc left) at h
+        ∙ place-same (kindOf (kindOfNode (getD xs at 0))) (operandOf (getD xs at 0)) (statementAt left xs) (statementAt (suc left) xs) left (at + 1) f
+        (subst (λ (p : Placed). depth (p .statement) ≤ suc left) e d)
+        ∙ sym e
+    go f (no h) = none-there xs (suc left) at (omega arith) ∙ sym (none-there xs left at (omega arith))

@@ -27,6 +27,10 @@ unfoldable pub bytesFrom : ℕ → List ℕ → List ℕ
 bytesFrom zero l = []
 bytesFrom (suc n) l = number (take 8 l) ∷ bytesFrom n (drop 8 l)
 
+-- a number in w bytes, "most significant first"
+abbrev pub bytes : ℕ → ℕ → List ℕ
+bytes w n = bytesFrom w (bits (8 * w) n)
+
 -- "then zero bits up to the next whole byte"
 unfoldable pub padded : List ℕ → List ℕ
 padded l = l ++ replicate ((8 - length l % 8) % 8) 0

@@ -9,6 +9,7 @@ use Rattle.sets.specs.Set.{has, only, _union_}
 use Rattle.esterel.specs.Statement.{Statement}
 use Rattle.table.specs.declared.Checked.{Checked}
 use Rattle.table.specs.declared.Checked.the-variants.{Refused, Accepted}
+use Rattle.table.specs.Outcomes.{Outcome, refusal, values}
 use Rattle.table.specs.Bits.{number, bitsOf}
 use Rattle.table.specs.Kinds.{Kind, kindOf, rowOf}
 
@@ -136,15 +137,16 @@ tableAfter (Accepted n) t = wholeOf n (readFrom deepest 0 0 (nodesOf t n))
 unfoldable pub tableOf : List ℕ → Table
 tableOf t = tableAfter (headerOf t) t
 
--- check's answer: the refusal, or N
-unfoldable pub answerOf : Table → Checked
-answerOf (Table.refused w) = Refused w
-answerOf (holds n p) = Accepted n
+-- what is said of an answer of check, case by case: the refusal, or N
+unfoldable pub checkedOutcome : Checked → Outcome
+checkedOutcome (Refused w) = refusal w
+checkedOutcome (Accepted n) = values (n ∷ [])
 
-unfoldable pub checkOf : List ℕ → Checked
-checkOf t = answerOf (tableOf t)
+-- "Accepted: N"
+unfoldable pub checkIn : Table → Outcome
+checkIn (Table.refused w) = refusal w
+checkIn (holds n p) = values (n ∷ [])
 
--- document 01's number for an answer of check: the refusal, 0 where the table is accepted
-unfoldable pub refusalOf : Checked → ℕ
-refusalOf (Refused w) = w
-refusalOf (Accepted n) = 0
+-- what check answers
+unfoldable pub checkOf : List ℕ → Outcome
+checkOf t = checkIn (tableOf t)

@@ -5,12 +5,12 @@ mod writing;
 
 pub use kinds::kind_of;
 pub use kinds::operand_of;
-pub use kinds::row_of;
 pub use reading::check;
 pub use reading::load;
 pub use reading::refusal;
 pub use writing::length_of;
 pub use writing::node_of;
+pub use writing::put_bytes;
 pub use writing::write_nodes;
 
 // What a kind fixes: its children, and its smallest and largest operand.

@@ -13,10 +13,10 @@ ghost use mathlib.Core.List.{_++_};
 ghost use Prim.Native.Nat.{_+_, _/_, _%_, _^_, _≤_, _<_};
 ghost use lib.Dec.{eqb, ltb};
 ghost use lib.ListN.{length, take, drop};
-ghost use Rattle.sets.specs.Set.{has, only, _union_};
-ghost use Rattle.table.specs.Kinds.{kindOf, rowOf};
-ghost use Rattle.table.specs.Reading.{kindOfNode, lengthOf, headerOf, nodesOf, faultOf, readFrom, deepest, wholeOf, answerOf, checkOf, refusalOf};
-ghost use Rattle.table.specs.inner.Loading.{Rows, wordAt, Cut, loadedOf, Walked};
+ghost use Rattle.sets.specs.Set.{has};
+ghost use Rattle.table.specs.Reading.{lengthOf, headerOf, nodesOf, readFrom, deepest, wholeOf, checkedOutcome, checkIn, checkOf};
+ghost use Rattle.table.specs.Outcomes.{numberOf};
+ghost use Rattle.table.specs.inner.Loading.{Rows, wordAt, Cut, loadedOf, fieldFault, Walked};
 
 // Two bytes as a number.
 fn word_at(table: &[u8], at: usize) -> u16
@@ -142,37 +142,12 @@ fn first_of(fault: u8, next: u8) -> u8
     if fault == 0 { next } else { fault }
 }
 
-// What is wrong with a node whose kind fixes the row: the number of the refusal, 6 to 10, or 0.
-fn fault_of(node: u16, row: Row, left: u8, tries: u8, used: u64) -> u8
-    requires { ⌜ row ≡ rowOf (kindOf (kindOfNode node)) ⌝ }
-    ensures { λ r. ⌜ r ≡ faultOf left tries used node ⌝ }
+// What is wrong with the operand of a node whose kind fixes the row, or with its depth: 7, 8, or 0.
+fn field_fault(operand: u8, row: Row, left: u8) -> u8
+    ensures { λ r. ⌜ r ≡ fieldFault left operand row ⌝ }
 {
-    let kind = kind_of(node);
-    if kind > 10 {
-        return 6;
-    }
-    let operand = operand_of(node);
     let range = range_fault(operand, row);
-    let depth = depth_fault(left);
-    let why = first_of(range, depth);
-    if why != 0 {
-        return why;
-    }
-    if kind == 4 {
-        return level_fault(Level(operand), tries);
-    }
-    if kind == 1 {
-        return label_fault(Label(operand), used);
-    }
-    0
-}
-
-// The labels used, with one more.
-fn use_label(label: Label, used: u64) -> u64
-    requires { ⌜ label .0 < 64 ⌝ }
-    ensures { λ r. ⌜ r ≡ used union only (label .0) ⌝ }
-{
-    used | sets::singleton(label.0)
+    first_of(range, depth_fault(left))
 }
 
 // Walks over the statement at node `at` of the first n, with all below it, inside `tries` try statements; `left` is the depth
@@ -196,31 +171,42 @@ fn walk(
     }
     let node = nodes[here];
     let kind = kind_of(node);
-    let row = row_in(rows, kind);
-    let why = fault_of(node, row, left, tries, *used);
-    if why != 0 {
-        return why;
-    }
+    let operand = operand_of(node);
+    let fault = field_fault(operand, row_in(rows, kind), left);
     *at = here + 1;
-    let below = left - 1;
     match kind {
-        0 => 0,
+        0 => fault,
         1 => {
-            *used = use_label(Label(operand_of(node)), *used);
-            0
+            let label = Label(operand);
+            let why = first_of(fault, label_fault(label, *used));
+            *used = sets::with(*used, label.0);
+            why
         }
-        2..=4 => 0,
-        5..=9 => {
-            if row.children == 1 {
-                return walk(nodes, n, below, tries, at, used, rows);
+        2 => fault,
+        3 => fault,
+        4 => first_of(fault, level_fault(Level(operand), tries)),
+        5 | 9 => {
+            if fault != 0 {
+                return fault;
             }
-            let first = walk(nodes, n, below, tries, at, used, rows);
+            walk(nodes, n, left - 1, tries, at, used, rows)
+        }
+        6..=8 => {
+            if fault != 0 {
+                return fault;
+            }
+            let first = walk(nodes, n, left - 1, tries, at, used, rows);
             if first != 0 {
                 return first;
             }
-            walk(nodes, n, below, tries, at, used, rows)
+            walk(nodes, n, left - 1, tries, at, used, rows)
         }
-        10 => walk(nodes, n, below, tries + 1, at, used, rows),
+        10 => {
+            if fault != 0 {
+                return fault;
+            }
+            walk(nodes, n, left - 1, tries + 1, at, used, rows)
+        }
         11..=15 => 6,
         _ => 6,
     }
@@ -229,7 +215,7 @@ fn walk(
 // Tests 6 to 11, on the first n nodes.
 fn walk_all(nodes: &[u16; 1024], n: u16) -> Checked
     requires { ⌜ (n ≤ 1024) × (length (now nodes) ≡ 1024) ⌝ }
-    ensures { λ r. ⌜ r ≡ answerOf (wholeOf n (readFrom deepest 0 0 (take n (now (nodes .entry))))) ⌝ }
+    ensures { λ r. ⌜ checkedOutcome r ≡ checkIn (wholeOf n (readFrom deepest 0 0 (take n (now (nodes .entry))))) ⌝ }
 {
     let count = n as usize;
     let mut at = 0;
@@ -247,7 +233,7 @@ fn walk_all(nodes: &[u16; 1024], n: u16) -> Checked
 
 // Check, with the nodes left decoded in front of the buffer.
 pub fn load(table: &[u8], nodes: &mut [u16; 1024]) -> Checked
-    ensures { λ r. ⌜ (r ≡ checkOf (now (table .entry))) × (now (nodes .exit) ≡ loadedOf (now (table .entry)) (now (nodes .entry))) ⌝ }
+    ensures { λ r. ⌜ (checkedOutcome r ≡ checkOf (now (table .entry))) × (now (nodes .exit) ≡ loadedOf (now (table .entry)) (now (nodes .entry))) ⌝ }
 {
     let head = header(table);
     let Checked::Accepted(n) = head else {
@@ -259,15 +245,15 @@ pub fn load(table: &[u8], nodes: &mut [u16; 1024]) -> Checked
 
 // Whether the bytes are a table: the number of the refusal, or the node count.
 pub fn check(table: &[u8]) -> Checked
-    ensures { λ r. ⌜ r ≡ checkOf (now (table .entry)) ⌝ }
+    ensures { λ r. ⌜ checkedOutcome r ≡ checkOf (now (table .entry)) ⌝ }
 {
     let mut nodes = [0u16; 1024];
     load(table, &mut nodes)
 }
 
-// Document 01's number for an answer of check: the refusal, 0 where the table is accepted.
+// The number of an answer of check: the refusal, 0 where the table is accepted.
 pub fn refusal(checked: Checked) -> u8
-    ensures { λ r. ⌜ r ≡ refusalOf checked ⌝ }
+    ensures { λ r. ⌜ r ≡ numberOf (checkedOutcome checked) ⌝ }
 {
     match checked {
         Checked::Refused(why) => why,

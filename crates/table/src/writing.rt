@@ -6,7 +6,7 @@ ghost use Prim.Native.Nat.{_+_, _*_, _/_, _%_, _^_, _≤_, _<_};
 ghost use mathlib.Core.List.{_++_};
 ghost use lib.ListN.{length, take, drop};
 ghost use lib.Seq.{paste};
-ghost use Rattle.table.specs.Bits.{bits, bytesFrom, Below};
+ghost use Rattle.table.specs.Bits.{bytes, Below};
 ghost use Rattle.table.specs.Reading.{lengthOf};
 ghost use Rattle.table.specs.Writing.{writeNodes};
 ghost use Rattle.table.specs.inner.Making.{inRange, nodeOf, Gathered, Writable};
@@ -44,9 +44,9 @@ fn byte_of(word: u64, shift: usize) -> u8
 }
 
 // Puts the last `count` bytes of the word at `at`, the most significant first.
-fn put_bytes(out: &mut [u8], at: usize, word: u64, count: usize)
+pub fn put_bytes(out: &mut [u8], at: usize, word: u64, count: usize)
     requires { ⌜ (count ≤ 8) × (at + count ≤ length (now out)) ⌝ }
-    ensures { λ _. ⌜ now (out .exit) ≡ paste (now (out .entry)) at (bytesFrom count (bits (8 * count) word)) count ⌝ }
+    ensures { λ _. ⌜ now (out .exit) ≡ paste (now (out .entry)) at (bytes count word) count ⌝ }
 {
     let mut i = 0;
     while i < count {

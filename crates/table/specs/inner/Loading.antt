@@ -3,6 +3,8 @@
 use mathlib.Core.Path.{_≡_}
 use Prim.Native.Nat.{ℕ, _+_, _-_, _*_, _/_, _%_, _≤_}
 use mathlib.Core.List.{List, _++_}
+use mathlib.Core.Bool.{cond, _||_}
+use lib.Dec.{eqb, ltb}
 use lib.ListN.{length, drop, getD}
 use Rattle.table.specs.declared.Row.{Row}
 use Rattle.table.specs.declared.Checked.{Checked}
@@ -37,6 +39,10 @@ loadedAfter (Accepted n) t old = nodesOf t n ++ drop n old
 
 unfoldable pub loadedOf : List ℕ → List ℕ → List ℕ
 loadedOf t old = loadedAfter (headerOf t) t old
+
+-- what is wrong with an operand, by the row of its kind, or with the depth that is left: the second and third test of a node
+unfoldable pub fieldFault : ℕ → ℕ → Row → ℕ
+fieldFault left o r = cond (ltb o (r .least) || ltb (r .most) o) 7 (cond (eqb left 0) 8 0)
 
 -- what a walk over n nodes gives for a reading: the refusal r, or 0 with the place of the nodes that are left and the labels
 abbrev pub Walked : ℕ → Reading → ℕ → ℕ → ℕ → Type 0

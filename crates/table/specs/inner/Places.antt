@@ -1,13 +1,14 @@
 -- The statement that stands at a place of decoded nodes, as the passes over a table walk it. It never refuses: what is
 -- missing or too deep is nothing. On an accepted table it is the statement that was read (proofs/Places).
-use Prim.Native.Nat.{ℕ, zero, suc, _+_}
+use Prim.Native.Nat.{ℕ, zero, suc, _+_, _≤_, _<_}
+use mathlib.Core.Path.{_≡_}
 use mathlib.Core.Bool.{cond}
 use mathlib.Core.List.{List}
 use lib.Dec.{ltb}
 use lib.ListN.{length, getD}
-use Rattle.esterel.specs.Statement.{Statement}
+use Rattle.esterel.specs.Statement.{Statement, size, depth, Valid}
 use Rattle.table.specs.Kinds.{Kind, kindOf}
-use Rattle.table.specs.Reading.{kindOfNode, operandOf}
+use Rattle.table.specs.Reading.{kindOfNode, operandOf, deepest}
 
 -- a statement, and the place after its last node
 pub record Placed : Type 0 where
@@ -44,3 +45,25 @@ statementAt zero xs at = placed Statement.nothing at
 statementAt (suc left) xs at =
     cond (ltb at (length xs)) (placeKind (kindOf (kindOfNode (getD xs at 0))) (operandOf (getD xs at 0)) (statementAt left xs) (at + 1))
     (placed Statement.nothing at)
+
+-- ---- The nodes of an accepted table
+
+-- the statement that nodes hold
+abbrev pub statementOf : List ℕ → Statement
+statementOf xs = statementAt deepest xs 0 .statement
+
+-- no node is of a kind above 10
+abbrev pub Known : List ℕ → Type 0
+Known xs = (i : ℕ) → kindOfNode (getD xs i 0) ≤ 10
+
+-- a buffer begins with the n nodes of an accepted statement, and what stands behind them is of kinds that there are
+pub record Loaded (n : ℕ) (xs : List ℕ) : Type 0 where
+  pub all : length xs ≡ 1024
+  pub few : n ≤ 1024
+  pub known : Known xs
+  pub valid : Valid 0 (statementOf xs)
+  pub shallow : depth (statementOf xs) ≤ deepest
+  pub size-is : size (statementOf xs) ≡ n
+  pub next-is : statementAt deepest xs 0 .next ≡ n
+  -- the signals of emits are below 32
+  pub narrow : (i : ℕ) → i < n → kindOfNode (getD xs i 0) ≡ 3 → operandOf (getD xs i 0) < 32

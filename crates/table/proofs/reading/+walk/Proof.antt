@@ -1,26 +1,32 @@
 -- `table::reading::walk` meets its contract: at each return it is what the walk comes to there (proofs/Walking). The measure
 -- is the depth that is left.
 use mathlib.Core.Path.{_≡_, sym, ap, _∙_}
+use mathlib.Core.Logic.{_⊎_, inl, inr}
 use mathlib.Core.List.{List}
-use Prim.Native.Nat.{ℕ, _≤_, _<_}
+use Prim.Native.Nat.{ℕ, _-_, _≤_, _<_, zero-le}
 use native.Mathlib.Omega.{arith}
 use lib.ListN.{length, getD, take}
 use lib.Seq.{getD-take, length-take-le}
 use borrow.Author.Needs.{needs}
-use Rattle.table.specs.declared.Row.{Row}
 use Rattle.table.specs.Kinds.{kindOf, rowOf}
-use Rattle.table.proofs.Faults.{fault-sound}
-use Rattle.table.proofs.Walking.{Fine, fine-known, walk-end, walk-fault, walk-nothing, walk-pause, walk-leaf, walk-one, walk-try, walk-first, walk-second}
+use Rattle.table.specs.Reading.{faultOf}
+use Rattle.table.specs.inner.Loading.{fieldFault}
+use Rattle.table.proofs.Faults.{Fields, fault-sound, fault-kind, fault-other, fault-exit, fault-pause}
+use Rattle.table.proofs.Places.{past}
+use Rattle.table.proofs.Walking.{At, walk-end, walk-fault, walk-pause, walk-leaf, walk-one, walk-try, walk-first, walk-second}
 use borrow.Fn.Kinds.{In}
 use borrow.Fn.PlainCycle.{Measures, is, falls, and}
 use Rattle.table.proofs.reading.walk.Reads as walk
 use Rattle.table.proofs.reading.walk.Kinds as walk-kinds
 use Rattle.table.proofs.reading.+walk.Lts-walk as walk-lts
+use Rattle.sets.proofs.with.Reads as with-reads
 use Rattle.table.proofs.kinds.kind_of.Reads as kind-of-reads
 use Rattle.table.proofs.kinds.operand_of.Reads as operand-of-reads
 use Rattle.table.proofs.kinds.row_in.Reads as row-in-reads
-use Rattle.table.proofs.reading.fault_of.Reads as fault-of-reads
-use Rattle.table.proofs.reading.use_label.Reads as use-label-reads
+use Rattle.table.proofs.reading.field_fault.Reads as field-fault-reads
+use Rattle.table.proofs.reading.first_of.Reads as first-of-reads
+use Rattle.table.proofs.reading.label_fault.Reads as label-fault-reads
+use Rattle.table.proofs.reading.level_fault.Reads as level-fault-reads
 use Rattle.table.proofs.reading.+walk.{statement}
 use Rattle.table.proofs.reading.+walk.Tie.{close}
 
@@ -34,7 +40,26 @@ abbrev walk-below : ℕ → In 4 walk-kinds.ps
 walk-below t = and 4 walk-kinds.ps (falls 4 walk-kinds.ps _<_ μ-walk t) walk.Pre
 
 abbrev claims : ℕ → walk-lts.Claims
-claims t = (kind-of-reads.Asked, kind-of-reads.Learnt, row-in-reads.Asked, row-in-reads.Learnt, fault-of-reads.Asked, fault-of-reads.Learnt, operand-of-reads.Asked, operand-of-reads.Learnt, use-label-reads.Asked, use-label-reads.Learnt, walk-below t, walk.Post)
+claims t = (kind-of-reads.Asked, kind-of-reads.Learnt, operand-of-reads.Asked, operand-of-reads.Learnt, row-in-reads.Asked, row-in-reads.Learnt, field-fault-reads.Asked, field-fault-reads.Learnt, label-fault-reads.Asked, label-fault-reads.Learnt, first-of-reads.Asked, first-of-reads.Learnt, with-reads.Asked, with-reads.Learnt, level-fault-reads.Asked, level-fault-reads.Learnt, walk-below t, walk.Post)
+
+-- a kind whose operand has no test of its own
+record Plain (k : ℕ) : Type 0 where
+  known : k ≤ 10
+  no-pause : k ≡ 1 → ⊥
+  no-exit : k ≡ 4 → ⊥
+
+plain : (k m : ℕ) → k ≡ m → m ≤ 10 → (m ≡ 1 → ⊥) → (m ≡ 4 → ⊥) → Plain k
+plain k m e a b c = record { known = omega arith; no-pause = λ z. b (sym e ∙ z); no-exit = λ z. c (sym e ∙ z) }
+
+plain-one : (k : ℕ) → (k ≡ 5) ⊎ (k ≡ 9) → Plain k
+plain-one k (inl e) = plain k 5 e (omega arith) (λ z. omega arith) (λ z. omega arith)
+plain-one k (inr e) = plain k 9 e (omega arith) (λ z. omega arith) (λ z. omega arith)
+
+plain-try : {k : ℕ} → k ≡ 10 → Plain k
+plain-try {k} e = plain k 10 e (omega arith) (λ z. omega arith) (λ z. omega arith)
+
+plain-two : (k : ℕ) → 6 ≤ k → k ≤ 8 → Plain k
+plain-two k a b = record { known = omega arith; no-pause = λ z. omega arith; no-exit = λ z. omega arith }
 
 -- the first n nodes
 module _ (t : ℕ) (c : walk-lts.Start (claims t) (walk-at t) walk.Post) where
@@ -55,10 +80,13 @@ module _ (t : ℕ) (c : walk-lts.Else1 (claims t) (walk-at t) walk.Post) where
   node : getD (begun .args .nodes .now) (begun .args .at .now) 0 ≡ getD (those t begun) (begun .args .at .now) 0
   node = sym (getD-take (begun .args .n) (begun .args .nodes .now) (begun .args .at .now) 0 (c .if1 .left))
 
--- past the test for a fault
-module _ (t : ℕ) (c : walk-lts.Else2 (claims t) (walk-at t) walk.Post) where
+-- before the decision over the kinds
+module _ (t : ℕ) (c : walk-lts.After-field-fault (claims t) (walk-at t) walk.Post) where
+  abbrev named : walk-lts.After-kind-of (claims t) (walk-at t) walk.Post
+  named = c .before .before .before
+
   abbrev entered : walk-lts.Else1 (claims t) (walk-at t) walk.Post
-  entered = c .before .before .before .before .before .before
+  entered = named .before .before
 
   abbrev start : walk-lts.Start (claims t) (walk-at t) walk.Post
   start = begun t entered
@@ -66,42 +94,78 @@ module _ (t : ℕ) (c : walk-lts.Else2 (claims t) (walk-at t) walk.Post) where
   abbrev here : ℕ
   here = getD (start .args .nodes .now) (start .args .at .now) 0
 
-  room : 1 ≤ start .args .left
-  room = fault-sound (start .args .left) (start .args .tries) (start .args .used .now) here (sym (c .before .fault-of .ensures) ∙ c .if2 .left) .0
-
   abbrev kind : ℕ
-  kind = c .before .before .before .before .kind-of .result
+  kind = named .kind-of .result
 
-  fine : Fine (start .args .n) (those t start) (start .args .left) (start .args .tries) (start .args .at .now) (start .args .used .now) here kind
-  fine =
-      record {
-        count = counted t start;
-        inside = inside t entered;
-        node = node t entered;
-        kind = c .before .before .before .before .kind-of .ensures;
-        fault = sym (c .if2 .left) ∙ c .before .fault-of .ensures;
-      }
+  abbrev operand : ℕ
+  operand = c .before .before .operand-of .result
 
-  known : kind ≤ 10
-  known = fine-known fine
+  abbrev fault : ℕ
+  fault = c .field-fault .result
 
-  row : c .before .before .before .row-in .result ≡ rowOf (kindOf kind)
-  row = c .before .before .before .row-in .ensures
+  abbrev faulty : ℕ
+  faulty = faultOf (start .args .left) (start .args .tries) (start .args .used .now) here
 
--- at a kind with one child or two
-module _ (t : ℕ) (c : walk-lts.After-struct-known (claims t) (walk-at t) walk.Post) where
-  abbrev chosen : walk-lts.Else2 (claims t) (walk-at t) walk.Post
-  chosen = c .before .before .before .before
+  at : At (start .args .n) (those t start) (start .args .left) (start .args .tries) (start .args .at .now) (start .args .used .now) here kind
+  at = record { count = counted t start; inside = inside t entered; node = node t entered; kind = named .kind-of .ensures }
 
-  from-five : 5 ≤ kind t chosen
-  from-five = c .before .before .if3 .left
+  fields : kind ≤ 10 → Fields (start .args .left) here kind operand fault
+  fields k = record {
+    kind = named .kind-of .ensures;
+    known = k;
+    operand = c .before .before .operand-of .ensures;
+    first = c .field-fault .ensures ∙ ap (fieldFault (start .args .left) operand) (c .before .row-in .ensures);
+  }
 
-  to-nine : kind t chosen < 10
-  to-nine = c .before .if4 .taken
+  -- no pause and no exit: range and depth are all that is tested
+  module _ (p : Plain kind) where
+    faults : fault ≡ faulty
+    faults = fault-other (start .args .tries) (start .args .used .now) (fields (p .known)) (p .no-pause) (p .no-exit)
+
+    module _ (z : fault ≡ 0) where
+      fine : 0 ≡ faulty
+      fine = sym z ∙ faults
+
+      room : 1 ≤ start .args .left
+      room = fault-sound (start .args .left) (start .args .tries) (start .args .used .now) here (sym fine) .0
+
+      falls-below : start .args .left - 1 < t
+      falls-below = omega (arith, room, start .pre .0)
+
+-- at a kind with two children
+module _ (t : ℕ) (c : walk-lts.Then4 (claims t) (walk-at t) walk.Post) where
+  abbrev tested : walk-lts.After-field-fault (claims t) (walk-at t) walk.Post
+  tested = c .before .before
+
+  from-six : 6 ≤ kind t tested
+  from-six =
+      let n4 = c .before .match .rest .0 .0 in
+      let n1 = n4 .0 .0 .0 in
+      let no-five : kind t tested ≡ 5 → ⊥ = λ e. c .before .match .rest .0 .1 (inl e) in
+      let k = kind t tested in
+      past 5 k (past 4 k (past 3 k (past 2 k (past 1 k (past 0 k zero-le (n1 .0 .1)) (n1 .1)) (n4 .0 .0 .1)) (n4 .0 .1)) (n4 .1)) no-five
+
+  to-eight : kind t tested ≤ 8
+  to-eight = omega (arith, c .if4 .taken)
+
+  both : Plain (kind t tested)
+  both = plain-two (kind t tested) from-six to-eight
+
+-- at none of the kinds
+module _ (t : ℕ) (c : walk-lts.Else4 (claims t) (walk-at t) walk.Post) where
+  abbrev decided : walk-lts.After-field-fault (claims t) (walk-at t) walk.Post
+  decided = c .before .before
+
+  unknown : 6 ≡ faulty t decided
+  unknown =
+      let a = start t decided .args in
+      let no-nine : kind t decided ≡ 9 → ⊥ = λ e. c .before .match .rest .0 .1 (inr e) in
+      fault-kind (a .left) (a .tries) (a .used .now) (here t decided) (kind t decided) (named t decided .kind-of .ensures)
+      (omega (arith, c .if4 .left, no-nine, c .before .match .rest .1))
 
 module _ (t : ℕ) where
   returns : walk-lts.Need-returns (claims t) (walk-at t) walk.Post
-  returns c =
+  returns c = 
       let s = c .before .before in
       walk-end (s .args .n) (those t s) (s .args .left) (s .args .tries) (s .args .at .now) (s .args .used .now) _ _ (counted t s) (c .if1 .taken)
 
@@ -111,106 +175,189 @@ module _ (t : ℕ) where
   element-copy-out-node : walk-lts.Need-element-copy-out-node (claims t) (walk-at t) walk.Post
   element-copy-out-node c = omega arith
 
-  fault-of-requires : walk-lts.Need-fault-of-requires (claims t) (walk-at t) walk.Post
-  fault-of-requires c κs = c .before .row-in .ensures ∙ ap (λ (k : ℕ). rowOf (kindOf k)) (c .before .before .kind-of .ensures)
-
-  returns-2 : walk-lts.Need-returns-2 (claims t) (walk-at t) walk.Post
-  returns-2 c =
-      let e = c .before .before .before .before .before .before in
-      let s = begun t e in
-      walk-fault (s .args .n) (those t s) (s .args .left) (s .args .tries) (s .args .at .now) (s .args .used .now) (getD (s .args .nodes .now) (s .args .at .now) 0) _ _ (inside t e) (node t e)
-      (c .before .fault-of .result) (c .before .fault-of .ensures) (c .if2 .taken)
-
-  add-at : walk-lts.Need-add-at (claims t) (walk-at t) walk.Post
-  add-at c = omega arith
-
-  sub-below : walk-lts.Need-sub-below (claims t) (walk-at t) walk.Post
-  sub-below c = room t c
-
   kind-of-requires : walk-lts.Need-kind-of-requires (claims t) (walk-at t) walk.Post
   kind-of-requires c κs = search needs
 
   operand-of-requires : walk-lts.Need-operand-of-requires (claims t) (walk-at t) walk.Post
   operand-of-requires c κs = search needs
 
-  use-label-requires : walk-lts.Need-use-label-requires (claims t) (walk-at t) walk.Post
-  use-label-requires c κs = omega (arith, c .operand-of .ensures)
+  row-in-requires : walk-lts.Need-row-in-requires (claims t) (walk-at t) walk.Post
+  row-in-requires c κs = let s = begun t (c .before .before .before) in s .pre .1 .3
 
-  add-walk : walk-lts.Need-add-walk (claims t) (walk-at t) walk.Post
-  add-walk c = let k = c .before in omega (arith, room t k, start t k .pre)
+  field-fault-requires : walk-lts.Need-field-fault-requires (claims t) (walk-at t) walk.Post
+  field-fault-requires c κs = search needs
+
+  add-at : walk-lts.Need-add-at (claims t) (walk-at t) walk.Post
+  add-at c = omega arith
+
+  label-fault-requires : walk-lts.Need-label-fault-requires (claims t) (walk-at t) walk.Post
+  label-fault-requires c κs = search needs
+
+  first-of-requires : walk-lts.Need-first-of-requires (claims t) (walk-at t) walk.Post
+  first-of-requires c κs = search needs
+
+  with-requires : walk-lts.Need-with-requires (claims t) (walk-at t) walk.Post
+  with-requires c κs = omega (arith, c .before .before .before .before .before .before .operand-of .ensures)
+
+  level-fault-requires : walk-lts.Need-level-fault-requires (claims t) (walk-at t) walk.Post
+  level-fault-requires c κs = search needs
+
+  first-of-requires-2 : walk-lts.Need-first-of-requires-2 (claims t) (walk-at t) walk.Post
+  first-of-requires-2 c κs = search needs
+
+  returns-2 : walk-lts.Need-returns-2 (claims t) (walk-at t) walk.Post
+  returns-2 c = 
+      let m = c .before in
+      let k = m .before in
+      walk-fault (at t k) (fault t k) _ _ (faults t k (plain-one (kind t k) (m .match .keys6))) (c .if2 .taken)
+
+  sub-walk : walk-lts.Need-sub-walk (claims t) (walk-at t) walk.Post
+  sub-walk c = 
+      let m = c .before in
+      room t (m .before) (plain-one (kind t (m .before)) (m .match .keys6)) (c .if2 .left)
 
   walk-requires : walk-lts.Need-walk-requires (claims t) (walk-at t) walk.Post
-  walk-requires c κs = let k = c .before .before .before in let p = start t k .pre .1 in (omega (arith, room t k, start t k .pre .0), (p .0, p .1, omega (arith, room t k, p .2), p .3))
-
-  row-in-requires : walk-lts.Need-row-in-requires (claims t) (walk-at t) walk.Post
-  row-in-requires c κs = c .before .before .before .before .pre .1 .3
-
-  walk-requires-2 : walk-lts.Need-walk-requires-2 (claims t) (walk-at t) walk.Post
-  walk-requires-2 c κs = let k = chosen t (c .before .before .before) in let p = start t k .pre .1 in (omega (arith, room t k, start t k .pre .0), (p .0, p .1, omega (arith, room t k, p .2), p .3))
+  walk-requires c κs = 
+      let e = c .before .before in
+      let m = e .before in
+      let k = m .before in
+      let p = start t k .pre .1 in
+      let r = plain-one (kind t k) (m .match .keys6) in
+      (falls-below t k r (e .if2 .left), (p .0, p .1, omega (arith, p .2), p .3))
 
   returns-3 : walk-lts.Need-returns-3 (claims t) (walk-at t) walk.Post
-  returns-3 c =
-      let d = c .before .before .before in
-      let k = chosen t (d .before) in
-      walk-one (fine t k) (c .walk2 .result) (c .walk2 .last .1 .1 .1 .1 .0)
-      (c .walk2 .last .1 .1 .1 .1 .1 .0) (from-five t (d .before)) (to-nine t (d .before)) (ap (λ (r : Row). r .children) (sym (row t k)) ∙ d .if5 .taken) (c .walk2 .ensures)
+  returns-3 c = 
+      let m = c .before in
+      let k = m .before in
+      walk-fault (at t k) (fault t k) _ _ (faults t k (plain-try (m .match .keys7))) (c .if3 .taken)
 
-  walk-requires-3 : walk-lts.Need-walk-requires-3 (claims t) (walk-at t) walk.Post
-  walk-requires-3 c κs = let k = chosen t (c .before .before .before) in let p = start t k .pre .1 in (omega (arith, room t k, start t k .pre .0), (p .0, p .1, omega (arith, room t k, p .2), p .3))
+  sub-walk-2 : walk-lts.Need-sub-walk-2 (claims t) (walk-at t) walk.Post
+  sub-walk-2 c = 
+      let m = c .before in
+      room t (m .before) (plain-try (m .match .keys7)) (c .if3 .left)
+
+  add-walk : walk-lts.Need-add-walk (claims t) (walk-at t) walk.Post
+  add-walk c = 
+      let m = c .before in
+      let k = m .before in
+      omega (arith, room t k (plain-try (m .match .keys7)) (c .if3 .left), start t k .pre .1 .2)
+
+  walk-requires-2 : walk-lts.Need-walk-requires-2 (claims t) (walk-at t) walk.Post
+  walk-requires-2 c κs = 
+      let e = c .before .before in
+      let m = e .before in
+      let k = m .before in
+      let p = start t k .pre .1 in
+      let r = plain-try (m .match .keys7) in
+      (falls-below t k r (e .if3 .left), (p .0, p .1, omega (arith, room t k r (e .if3 .left), p .2), p .3))
 
   returns-4 : walk-lts.Need-returns-4 (claims t) (walk-at t) walk.Post
-  returns-4 c =
-      let w = c .before in
-      let d = w .before .before .before in
-      let k = chosen t (d .before) in
-      walk-first (fine t k) (w .walk3 .result) _ _
-      (from-five t (d .before)) (to-nine t (d .before)) (λ e. d .if5 .left (ap (λ (r : Row). r .children) (row t k) ∙ e)) (w .walk3 .last .1 .1 .1 .1 .0) (w .walk3 .last .1 .1 .1 .1 .1 .0)
-      (c .if6 .taken) (w .walk3 .ensures)
+  returns-4 c = 
+      let m = c .before in
+      let k = tested t m in
+      walk-fault (at t k) (fault t k) _ _ (faults t k (both t m)) (c .if5 .taken)
 
-  walk-requires-4 : walk-lts.Need-walk-requires-4 (claims t) (walk-at t) walk.Post
-  walk-requires-4 c κs = let k = chosen t (c .before .before .before .before .before .before .before) in let p = start t k .pre .1 in (omega (arith, room t k, start t k .pre .0), (p .0, p .1, omega (arith, room t k, p .2), p .3))
+  sub-walk-3 : walk-lts.Need-sub-walk-3 (claims t) (walk-at t) walk.Post
+  sub-walk-3 c = room t (tested t (c .before)) (both t (c .before)) (c .if5 .left)
+
+  walk-requires-3 : walk-lts.Need-walk-requires-3 (claims t) (walk-at t) walk.Post
+  walk-requires-3 c κs = 
+      let e = c .before .before in
+      let k = tested t (e .before) in
+      let p = start t k .pre .1 in
+      (falls-below t k (both t (e .before)) (e .if5 .left), (p .0, p .1, omega (arith, p .2), p .3))
 
   returns-5 : walk-lts.Need-returns-5 (claims t) (walk-at t) walk.Post
-  returns-5 c =
-      let k = c .before in
-      walk-nothing (fine t k) (c .match .keys1)
+  returns-5 c = 
+      let w = c .before in
+      let e = w .before .before .before in
+      let m = e .before in
+      let k = tested t m in
+      walk-first (at t k) (w .walk3 .result) _ _ (from-six t m) (to-eight t m) (fine t k (both t m) (e .if5 .left))
+      (w .walk3 .last .1 .1 .1 .1 .0) (w .walk3 .last .1 .1 .1 .1 .1 .0) (c .if6 .taken) (w .walk3 .ensures)
+
+  sub-walk-4 : walk-lts.Need-sub-walk-4 (claims t) (walk-at t) walk.Post
+  sub-walk-4 c = 
+      let e = c .before .before .before .before in
+      room t (tested t (e .before)) (both t (e .before)) (e .if5 .left)
+
+  walk-requires-4 : walk-lts.Need-walk-requires-4 (claims t) (walk-at t) walk.Post
+  walk-requires-4 c κs = 
+      let g = c .before .before in
+      let e = g .before .before .before .before in
+      let k = tested t (e .before) in
+      let p = start t k .pre .1 in
+      (falls-below t k (both t (e .before)) (e .if5 .left), (p .0, p .1, omega (arith, p .2), p .3))
 
   returns-6 : walk-lts.Need-returns-6 (claims t) (walk-at t) walk.Post
-  returns-6 c =
-      let k = c .before .before .before in
-      walk-pause (fine t k) (c .before .before .match .keys2)
-      (c .before .operand-of .result) (c .use-label .result) (c .before .operand-of .ensures) (c .use-label .ensures)
+  returns-6 c = 
+      let k = c .before in
+      let e = c .match .keys1 in
+      walk-leaf (at t k) (inl e) (fault t k) (faults t k (plain (kind t k) 0 e (omega arith) (λ z. omega arith) (λ z. omega arith)))
 
   returns-7 : walk-lts.Need-returns-7 (claims t) (walk-at t) walk.Post
-  returns-7 c =
-      let m = c .before .before .before in
+  returns-7 c = 
+      let l = c .before .before in
+      let m = l .before .before in
       let k = m .before in
-      walk-try (fine t k) (c .walk .result) (c .walk .last .1 .1 .1 .1 .0)
-      (c .walk .last .1 .1 .1 .1 .1 .0) (m .match .keys3) (c .walk .ensures)
+      let e = m .match .keys2 in
+      walk-pause (at t k) e (operand t k) (c .with .result) (c .before .first-of .result) (k .before .before .operand-of .ensures) (c .with .ensures)
+      (fault-pause (start t k .args .tries) (start t k .args .used .now) (fields t k (omega arith)) e (l .label-fault .result) (c .before .first-of .result) (l .label-fault .ensures)
+      (c .before .first-of .ensures))
 
   returns-8 : walk-lts.Need-returns-8 (claims t) (walk-at t) walk.Post
-  returns-8 c =
-      let k = c .before .before in
-      walk-leaf (fine t k)
-      (omega (arith, c .before .match .rest .0 .1, c .before .match .rest .0 .0 .1)) (c .if3 .taken)
+  returns-8 c = 
+      let k = c .before in
+      let e = c .match .keys3 in
+      walk-leaf (at t k) (inr (inl e)) (fault t k) (faults t k (plain (kind t k) 2 e (omega arith) (λ z. omega arith) (λ z. omega arith)))
 
   returns-9 : walk-lts.Need-returns-9 (claims t) (walk-at t) walk.Post
-  returns-9 c =
-      let g = c .before .before .before in
-      let w = g .before in
-      let d = w .before .before .before in
-      let k = chosen t (d .before) in
-      walk-second (fine t k) (c .walk4 .result) (c .walk4 .last .1 .1 .1 .1 .0)
-      (c .walk4 .last .1 .1 .1 .1 .1 .0) (from-five t (d .before)) (to-nine t (d .before)) (λ e. d .if5 .left (ap (λ (r : Row). r .children) (row t k) ∙ e))
-      (w .walk3 .result) (w .walk3 .last .1 .1 .1 .1 .0) (w .walk3 .last .1 .1 .1 .1 .1 .0) (g .if6 .left) (w .walk3 .ensures) (c .walk4 .ensures)
+  returns-9 c = 
+      let k = c .before in
+      let e = c .match .keys4 in
+      walk-leaf (at t k) (inr (inr (inl e))) (fault t k) (faults t k (plain (kind t k) 3 e (omega arith) (λ z. omega arith) (λ z. omega arith)))
 
   returns-10 : walk-lts.Need-returns-10 (claims t) (walk-at t) walk.Post
-  returns-10 c =
-      let r = c .before .before .before in
-      absurd (omega (arith, known t (r .before), c .before .if4 .left, r .match .rest .1))
+  returns-10 c = 
+      let l = c .before in
+      let m = l .before in
+      let k = m .before in
+      let e = m .match .keys5 in
+      walk-leaf (at t k) (inr (inr (inr e))) (c .first-of2 .result)
+      (fault-exit (start t k .args .tries) (start t k .args .used .now) (fields t k (omega arith)) e (l .level-fault .result) (c .first-of2 .result) (l .level-fault .ensures) (c .first-of2 .ensures))
 
   returns-11 : walk-lts.Need-returns-11 (claims t) (walk-at t) walk.Post
-  returns-11 c = absurd (omega (arith, known t (c .before .before .before .before)))
+  returns-11 c = 
+      let e = c .before .before .before in
+      let m = e .before in
+      let k = m .before in
+      walk-one (at t k) (c .walk .result) (c .walk .last .1 .1 .1 .1 .0) (c .walk .last .1 .1 .1 .1 .1 .0) (m .match .keys6)
+      (fine t k (plain-one (kind t k) (m .match .keys6)) (e .if2 .left)) (c .walk .ensures)
+
+  returns-12 : walk-lts.Need-returns-12 (claims t) (walk-at t) walk.Post
+  returns-12 c = 
+      let e = c .before .before .before in
+      let m = e .before in
+      let k = m .before in
+      walk-try (at t k) (c .walk2 .result) (c .walk2 .last .1 .1 .1 .1 .0) (c .walk2 .last .1 .1 .1 .1 .1 .0) (m .match .keys7)
+      (fine t k (plain-try (m .match .keys7)) (e .if3 .left)) (c .walk2 .ensures)
+
+  returns-13 : walk-lts.Need-returns-13 (claims t) (walk-at t) walk.Post
+  returns-13 c = 
+      let g = c .before .before .before in
+      let w = g .before in
+      let e = w .before .before .before in
+      let m = e .before in
+      let k = tested t m in
+      walk-second (at t k) (c .walk4 .result) (c .walk4 .last .1 .1 .1 .1 .0) (c .walk4 .last .1 .1 .1 .1 .1 .0)
+      (from-six t m) (to-eight t m) (fine t k (both t m) (e .if5 .left))
+      (w .walk3 .result) (w .walk3 .last .1 .1 .1 .1 .0) (w .walk3 .last .1 .1 .1 .1 .1 .0) (g .if6 .left) (w .walk3 .ensures) (c .walk4 .ensures)
+
+  returns-14 : walk-lts.Need-returns-14 (claims t) (walk-at t) walk.Post
+  returns-14 c = walk-fault (at t (decided t (c .before))) 6 _ _ (unknown t (c .before)) (λ z. omega arith)
+
+  returns-15 : walk-lts.Need-returns-15 (claims t) (walk-at t) walk.Post
+  returns-15 c = walk-fault (at t (decided t (c .before))) 6 _ _ (unknown t (c .before)) (λ z. omega arith)
 
 pub +walk-spec : {M : Type 1} → statement M
 +walk-spec =
@@ -224,24 +371,35 @@ pub +walk-spec : {M : Type 1} → statement M
     (mul-node t)
     (element-copy-out-node t)
     (kind-of-requires t)
-    (row-in-requires t)
-    (fault-of-requires t)
-    (returns-2 t)
-    (add-at t)
-    (sub-below t)
     (operand-of-requires t)
-    (use-label-requires t)
-    (add-walk t)
+    (row-in-requires t)
+    (field-fault-requires t)
+    (add-at t)
+    (label-fault-requires t)
+    (first-of-requires t)
+    (with-requires t)
+    (level-fault-requires t)
+    (first-of-requires-2 t)
+    (returns-2 t)
+    (sub-walk t)
     (walk-requires t)
-    (walk-requires-2 t)
     (returns-3 t)
-    (walk-requires-3 t)
+    (sub-walk-2 t)
+    (add-walk t)
+    (walk-requires-2 t)
     (returns-4 t)
-    (walk-requires-4 t)
+    (sub-walk-3 t)
+    (walk-requires-3 t)
     (returns-5 t)
+    (sub-walk-4 t)
+    (walk-requires-4 t)
     (returns-6 t)
     (returns-7 t)
     (returns-8 t)
     (returns-9 t)
     (returns-10 t)
     (returns-11 t)
+    (returns-12 t)
+    (returns-13 t)
+    (returns-14 t)
+    (returns-15 t)

@@ -5,21 +5,21 @@ use Prim.Native.Nat.{_-_, _*_, _≤_}
 use native.Mathlib.Omega.{arith}
 use lib.ListN.{length, length-set}
 use lib.Seq.{paste, paste-zero}
-use Rattle.table.specs.Bits.{bits, bytesFrom}
+use Rattle.table.specs.Bits.{bytes}
 use Rattle.table.proofs.Packing.{put-byte}
 use Rattle.table.proofs.writing.put_bytes.Statement.{statement}
 use Rattle.table.proofs.writing.put_bytes.Tie as tie
 
 abbrev Inv-loop : tie.InvT-loop
 Inv-loop out₀ at word count i₀ out i =
-    (out ≡ paste out₀ at (bytesFrom count (bits (8 * count) word)) i) × (i ≤ count) × (length out ≡ length out₀)
+    (out ≡ paste out₀ at (bytes count word) i) × (i ≤ count) × (length out ≡ length out₀)
 
 abbrev μ-loop : tie.MeasureT-loop
 μ-loop out₀ at word count i₀ out i = count - i
 
 loop-holds : tie.Need-loop-holds Inv-loop μ-loop
 loop-holds c = (
-  paste-zero (now (c .before .args .out)) (c .before .args .at) (bytesFrom (c .before .args .count) (bits (8 * c .before .args .count) (c .before .args .word))),
+  paste-zero (now (c .before .args .out)) (c .before .args .at) (bytes (c .before .args .count) (c .before .args .word)),
   omega arith,
   refl,
 )
