@@ -1,7 +1,19 @@
 // Reading a table: the header, the nodes out of the bytes, the statement out of the nodes. And check.
 use crate::Checked;
+use crate::DEEPEST;
+use crate::MOST_NODES;
 use crate::Row;
+use crate::kinds::EMIT;
+use crate::kinds::EXIT;
+use crate::kinds::GOTOPAUSE;
 use crate::kinds::KINDS;
+use crate::kinds::LOOP;
+use crate::kinds::NOTHING;
+use crate::kinds::PARALLEL;
+use crate::kinds::PAUSE;
+use crate::kinds::PRESENT;
+use crate::kinds::SIGNAL;
+use crate::kinds::TRY;
 use crate::kinds::kind_of;
 use crate::kinds::operand_of;
 use crate::kinds::row_in;
@@ -41,7 +53,7 @@ fn header(table: &[u8]) -> Checked
     if n == 0 {
         return Checked::Refused(3);
     }
-    if n > 1024 {
+    if n as usize > MOST_NODES {
         return Checked::Refused(3);
     }
     let bits = n as usize * 10;
@@ -115,7 +127,7 @@ fn range_fault(operand: u8, row: Row) -> u8
 }
 
 // "8 too deep", or 0.
-fn depth_fault(left: u8) -> u8
+fn depth_fault(left: usize) -> u8
     ensures { λ r. ⌜ r ≡ cond (eqb left 0) 8 0 ⌝ }
 {
     if left == 0 { 8 } else { 0 }
@@ -143,7 +155,7 @@ fn first_of(fault: u8, next: u8) -> u8
 }
 
 // What is wrong with the operand of a node whose kind fixes the row, or with its depth: 7, 8, or 0.
-fn field_fault(operand: u8, row: Row, left: u8) -> u8
+fn field_fault(operand: u8, row: Row, left: usize) -> u8
     ensures { λ r. ⌜ r ≡ fieldFault left operand row ⌝ }
 {
     let range = range_fault(operand, row);
@@ -154,9 +166,9 @@ fn field_fault(operand: u8, row: Row, left: u8) -> u8
 // that is left, that node's included. Gives the number of the refusal, or 0 with the place after the statement in `at` and
 // its labels added to `used`.
 fn walk(
-    nodes: &[u16; 1024],
+    nodes: &[u16; MOST_NODES],
     n: usize,
-    left: u8,
+    left: usize,
     tries: u8,
     at: &mut usize,
     used: &mut u64,
@@ -175,23 +187,23 @@ fn walk(
     let fault = field_fault(operand, row_in(rows, kind), left);
     *at = here + 1;
     match kind {
-        0 => fault,
-        1 => {
+        NOTHING => fault,
+        PAUSE => {
             let label = Label(operand);
             let why = first_of(fault, label_fault(label, *used));
             *used = sets::with(*used, label.0);
             why
         }
-        2 => fault,
-        3 => fault,
-        4 => first_of(fault, level_fault(Level(operand), tries)),
-        5 | 9 => {
+        GOTOPAUSE => fault,
+        EMIT => fault,
+        EXIT => first_of(fault, level_fault(Level(operand), tries)),
+        SIGNAL | LOOP => {
             if fault != 0 {
                 return fault;
             }
             walk(nodes, n, left - 1, tries, at, used, rows)
         }
-        6..=8 => {
+        PRESENT..=PARALLEL => {
             if fault != 0 {
                 return fault;
             }
@@ -201,7 +213,7 @@ fn walk(
             }
             walk(nodes, n, left - 1, tries, at, used, rows)
         }
-        10 => {
+        TRY => {
             if fault != 0 {
                 return fault;
             }
@@ -213,7 +225,7 @@ fn walk(
 }
 
 // Tests 6 to 11, on the first n nodes.
-fn walk_all(nodes: &[u16; 1024], n: u16) -> Checked
+fn walk_all(nodes: &[u16; MOST_NODES], n: u16) -> Checked
     requires { ⌜ (n ≤ 1024) × (length (now nodes) ≡ 1024) ⌝ }
     ensures { λ r. ⌜ checkedOutcome r ≡ checkIn (wholeOf n (readFrom deepest 0 0 (take n (now (nodes .entry))))) ⌝ }
 {
@@ -221,7 +233,7 @@ fn walk_all(nodes: &[u16; 1024], n: u16) -> Checked
     let mut at = 0;
     let mut used = 0;
     let rows = KINDS;
-    let why = walk(nodes, count, 60, 0, &mut at, &mut used, &rows);
+    let why = walk(nodes, count, DEEPEST, 0, &mut at, &mut used, &rows);
     if why != 0 {
         return Checked::Refused(why);
     }
@@ -232,7 +244,7 @@ fn walk_all(nodes: &[u16; 1024], n: u16) -> Checked
 }
 
 // Check, with the nodes left decoded in front of the buffer.
-pub fn load(table: &[u8], nodes: &mut [u16; 1024]) -> Checked
+pub fn load(table: &[u8], nodes: &mut [u16; MOST_NODES]) -> Checked
     ensures { λ r. ⌜ (checkedOutcome r ≡ checkOf (now (table .entry))) × (now (nodes .exit) ≡ loadedOf (now (table .entry)) (now (nodes .entry))) ⌝ }
 {
     let head = header(table);
@@ -247,7 +259,7 @@ pub fn load(table: &[u8], nodes: &mut [u16; 1024]) -> Checked
 pub fn check(table: &[u8]) -> Checked
     ensures { λ r. ⌜ checkedOutcome r ≡ checkOf (now (table .entry)) ⌝ }
 {
-    let mut nodes = [0u16; 1024];
+    let mut nodes = [0u16; MOST_NODES];
     load(table, &mut nodes)
 }
 

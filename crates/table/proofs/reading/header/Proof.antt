@@ -41,6 +41,9 @@ returns-3 c =
     let w = c .before .before in
     refused-none (first w) (c .before .if2 .left) (c .if3 .taken)
 
+cast-if4 : tie.Need-cast-if4
+cast-if4 c = omega (arith, mask-lt (word (c .before .before)) 12)
+
 returns-4 : tie.Need-returns-4
 returns-4 c =
     let w = c .before .before .before in
@@ -105,6 +108,7 @@ header-spec =
     word-at-requires
     returns-2
     returns-3
+    cast-if4
     returns-4
     cast-bits
     mul-bits
