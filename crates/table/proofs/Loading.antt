@@ -138,21 +138,23 @@ module _ (t old : List ℕ) (n : ℕ) (p : Statement) (h : tableOf t ≡ holds n
   fine : Each (nodesOf t n)
   fine = subst Each (sym (kept .nodes-are)) (fine-nodes 0 p (kept .valid))
 
-  pub loaded-table : length old ≡ 1024 → Known old → Loaded n (loadedOf t old)
+  pub loaded-size : size (statementOf (loadedOf t old)) ≡ n
+  loaded-size = ap size loaded-statement ∙ kept .count
+
+  pub loaded-table : length old ≡ 1024 → Known old → Loaded (loadedOf t old)
   loaded-table l k =
       let few = kept .header .few in
       record {
         all = ap length front ∙ length-append (nodesOf t n) (drop n old) ∙ ap₂ _+_ (length-nodesOf t n) (length-drop n old) ∙ (omega arith);
-        few = few;
+        few = omega (arith, loaded-size);
         known = subst Known (sym front)
             (known-append (nodesOf t n) (drop n old) (λ i. fine i .0) (λ i. subst (λ (x : ℕ). kindOfNode x ≤ 10) (sym (getD-drop n old i 0)) (k (n + i))));
         valid = subst (Valid 0) (sym loaded-statement) (kept .valid);
         shallow = subst (λ (q : Statement). depth q ≤ deepest) (sym loaded-statement) (kept .deep);
-        size-is = ap size loaded-statement ∙ kept .count;
-        next-is = ap (λ (x : Placed). x .next) root;
+        next-is = ap (λ (x : Placed). x .next) root ∙ sym loaded-size;
         narrow = λ i b.
             let same : getD (nodesOf t n) i 0 ≡ getD (loadedOf t old) i 0 =
-            sym (ap (λ (xs : List ℕ). getD xs i 0) front ∙ List·getD-append (nodesOf t n) (drop n old) 0 i (omega (arith, length-nodesOf t n))) in
+            sym (ap (λ (xs : List ℕ). getD xs i 0) front ∙ List·getD-append (nodesOf t n) (drop n old) 0 i (omega (arith, length-nodesOf t n, loaded-size))) in
             subst (λ (x : ℕ). kindOfNode x ≡ 3 → operandOf x < 32) same (fine i .1);
       }
 
@@ -178,5 +180,8 @@ module _ (t old new : List ℕ) (c : Checked) (h : (checkedOutcome c ≡ checkOf
     pub load-statement : statementOf new ≡ load-holds .0
     load-statement = ap statementOf (h .1) ∙ loaded-statement t old n (load-holds .0) (load-holds .1)
 
-    pub load-loaded : length old ≡ 1024 → Known old → Loaded n new
-    load-loaded l k = subst (Loaded n) (sym (h .1)) (loaded-table t old n (load-holds .0) (load-holds .1) l k)
+    pub load-size : size (statementOf new) ≡ n
+    load-size = ap (λ (xs : List ℕ). size (statementOf xs)) (h .1) ∙ loaded-size t old n (load-holds .0) (load-holds .1)
+
+    pub load-loaded : length old ≡ 1024 → Known old → Loaded new
+    load-loaded l k = subst Loaded (sym (h .1)) (loaded-table t old n (load-holds .0) (load-holds .1) l k)

@@ -56,14 +56,13 @@ statementOf xs = statementAt deepest xs 0 .statement
 abbrev pub Known : List ℕ → Type 0
 Known xs = (i : ℕ) → kindOfNode (getD xs i 0) ≤ 10
 
--- a buffer begins with the n nodes of an accepted statement, and what stands behind them is of kinds that there are
-pub record Loaded (n : ℕ) (xs : List ℕ) : Type 0 where
+-- a buffer begins with the nodes of an accepted statement, and what stands behind them is of kinds that there are
+pub record Loaded (xs : List ℕ) : Type 0 where
   pub all : length xs ≡ 1024
-  pub few : n ≤ 1024
+  pub few : size (statementOf xs) ≤ 1024
   pub known : Known xs
   pub valid : Valid 0 (statementOf xs)
   pub shallow : depth (statementOf xs) ≤ deepest
-  pub size-is : size (statementOf xs) ≡ n
-  pub next-is : statementAt deepest xs 0 .next ≡ n
+  pub next-is : statementAt deepest xs 0 .next ≡ size (statementOf xs)
   -- the signals of emits are below 32
-  pub narrow : (i : ℕ) → i < n → kindOfNode (getD xs i 0) ≡ 3 → operandOf (getD xs i 0) < 32
+  pub narrow : (i : ℕ) → i < size (statementOf xs) → kindOfNode (getD xs i 0) ≡ 3 → operandOf (getD xs i 0) < 32
