@@ -1,12 +1,13 @@
 -- What list answers, for every list of bytes.
 use mathlib.Core.Bool.{cond, _||_}
-use mathlib.Core.List.{List, []}
+use mathlib.Core.List.{List, [], _∷_}
 use Prim.Native.Nat.{ℕ, zero, suc}
 use lib.Dec.{ltb}
 use lib.ListN.{length}
 use Rattle.esterel.specs.Statement.{Statement}
 use Rattle.esterel.specs.Reactions.{State, start, resumed, Reaction}
 use Rattle.esterel.specs.Listing.{listing, crowded, nesting}
+use Rattle.table.specs.Outcomes.{Outcome, refusal, values}
 use Rattle.table.specs.Reading.{Table, tableOf}
 use Rattle.table.specs.Reading as table
 use Rattle.list.specs.declared.Answer.{Answer}
@@ -17,40 +18,40 @@ unfoldable pub stateOf : ℕ → ℕ → State
 stateOf zero X = start
 stateOf (suc mark) X = resumed X
 
--- a refusal, or the reactions
-pub data Found : Type 0 where
-  refused : ℕ → Found
-  found : List Reaction → Found
+-- what listing comes to: a refusal, or the reactions
+pub data Listing : Type 0 where
+  refused : ℕ → Listing
+  listed : List Reaction → Listing
 
 -- "14 over 12 signal statements inside one another; 15 some list needed, the table's own included, has over 64 reactions"
-unfoldable pub reactionsOf : Statement → State → ℕ → Found
-reactionsOf p x E = cond (ltb 12 (nesting p)) (refused 14) (cond (crowded p x E) (refused 15) (found (listing p x E)))
+unfoldable pub listFor : Statement → State → ℕ → Listing
+listFor p x E = cond (ltb 12 (nesting p)) (refused 14) (cond (crowded p x E) (refused 15) (listed (listing p x E)))
 
 -- "Check's refusals"
-unfoldable pub foundIn : Table → ℕ → ℕ → ℕ → Found
-foundIn (table.refused w) E mark X = refused w
-foundIn (table.holds n p) E mark X = reactionsOf p (stateOf mark X) E
+unfoldable pub listIn : Table → ℕ → ℕ → ℕ → Listing
+listIn (table.refused w) E mark X = refused w
+listIn (table.holds n p) E mark X = listFor p (stateOf mark X) E
 
 -- "16 one of the three result buffers (O, k, L) has fewer places than reactions"
-unfoldable pub fitted : ℕ → ℕ → ℕ → Found → Found
+unfoldable pub fitted : ℕ → ℕ → ℕ → Listing → Listing
 fitted o k l (refused w) = refused w
-fitted o k l (found ts) = cond (ltb o (length ts) || (ltb k (length ts) || ltb l (length ts))) (refused 16) (found ts)
+fitted o k l (listed ts) = cond (ltb o (length ts) || (ltb k (length ts) || ltb l (length ts))) (refused 16) (listed ts)
 
 -- of the bytes t, under E, in the state of a mark and a label set, with so many places in the buffers
-unfoldable pub listOf : List ℕ → ℕ → ℕ → ℕ → ℕ → ℕ → ℕ → Found
-listOf t E mark X o k l = fitted o k l (foundIn (tableOf t) E mark X)
-
--- "Accepted: the count"
-unfoldable pub answerOf : Found → Answer
-answerOf (refused w) = Refused w
-answerOf (found ts) = Listed (length ts)
+unfoldable pub listOf : List ℕ → ℕ → ℕ → ℕ → ℕ → ℕ → ℕ → Listing
+listOf t E mark X o k l = fitted o k l (listIn (tableOf t) E mark X)
 
 -- the reactions that stand in the buffers afterwards
-unfoldable pub written : Found → List Reaction
+unfoldable pub written : Listing → List Reaction
 written (refused w) = []
-written (found ts) = ts
+written (listed ts) = ts
 
--- document 01's number for an answer: the refusal, 0 where the count is given
-unfoldable pub refusalOf : Answer → ℕ
-refusalOf (Refused w) = w
-refusalOf (Listed n) = 0
+-- "Accepted: the count"
+unfoldable pub listingOutcome : Listing → Outcome
+listingOutcome (refused w) = refusal w
+listingOutcome (listed ts) = values (length ts ∷ [])
+
+-- what is said of an answer of list, case by case: the refusal, or the count
+unfoldable pub answerOutcome : Answer → Outcome
+answerOutcome (Refused w) = refusal w
+answerOutcome (Listed n) = values (n ∷ [])
