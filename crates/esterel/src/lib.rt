@@ -1,5 +1,6 @@
 // The three counters of Esterel*: labels, exit levels and completion codes. No number is taken from one to another but here.
 ghost use mathlib.Core.Path.{_≡_};
+ghost use Prim.Native.Nat.{max};
 ghost use Rattle.esterel.specs.Codes.{codeOf, through};
 
 // The label of a pause, 1 to 63.
@@ -29,4 +30,11 @@ pub fn through_try(code: Code) -> Code
         2 => Code(0),
         _ => Code(k - 1),
     }
+}
+
+// The larger of two numbers: of the codes of two parts in parallel, of depths, of nestings.
+pub fn larger(a: u16, b: u16) -> u16
+    ensures { λ r. ⌜ r ≡ max a b ⌝ }
+{
+    if a < b { b } else { a }
 }
