@@ -15,7 +15,7 @@ use Rattle.table.specs.Reading.{Reading, refused, read, withOne, withTwo
 use Rattle.table.specs.inner.Loading.{Walked}
 use Rattle.table.specs.Writing.{nodes}
 use Rattle.table.proofs.Nodes.{length-nodes}
-use Rattle.table.proofs.Faults.{fault-sound}
+use Rattle.table.proofs.Faults.{fault-none}
 use Rattle.table.proofs.Accepted.{Child, read-faithful}
 use Rattle.table.proofs.Places.{past-nodes}
 
@@ -33,7 +33,7 @@ read-fault (suc left) tries used x xs w e = rw e
 pub read-fine : (left tries used x : ℕ) (xs : List ℕ) → faultOf left tries used x ≡ 0
     → readFrom left tries used (x ∷ xs) ≡ readKind (kindOf (x / 64)) (x % 64) (readFrom (left - 1)) tries used xs
 unfolding readFrom readNode
-read-fine zero tries used x xs e = absurd (let l = fault-sound 0 tries used x e .0 in omega arith)
+read-fine zero tries used x xs e = absurd (let l = fault-none 0 tries used x e .0 in omega arith)
 read-fine (suc left) tries used x xs e = rw (e, sub-one (suc left))
 
 -- ---- The shapes of kinds

@@ -11,7 +11,7 @@ use borrow.Author.Needs.{needs}
 use Rattle.table.specs.Kinds.{kindOf, rowOf}
 use Rattle.table.specs.Reading.{faultOf}
 use Rattle.table.specs.inner.Loading.{fieldFault}
-use Rattle.table.proofs.Faults.{Fields, fault-sound, fault-kind, fault-other, fault-exit, fault-pause}
+use Rattle.table.proofs.Faults.{Fields, fault-none, fault-kind, fault-other, fault-exit, fault-pause}
 use Rattle.table.proofs.Places.{past}
 use Rattle.table.proofs.Walking.{At, walk-end, walk-fault, walk-pause, walk-leaf, walk-one, walk-try, walk-first, walk-second}
 use borrow.Fn.Kinds.{In}
@@ -40,7 +40,26 @@ abbrev walk-below : ℕ → In 4 walk-kinds.ps
 walk-below t = and 4 walk-kinds.ps (falls 4 walk-kinds.ps _<_ μ-walk t) walk.Pre
 
 abbrev claims : ℕ → walk-lts.Claims
-claims t = (kind-of-reads.Asked, kind-of-reads.Learnt, operand-of-reads.Asked, operand-of-reads.Learnt, row-in-reads.Asked, row-in-reads.Learnt, field-fault-reads.Asked, field-fault-reads.Learnt, label-fault-reads.Asked, label-fault-reads.Learnt, first-of-reads.Asked, first-of-reads.Learnt, with-reads.Asked, with-reads.Learnt, level-fault-reads.Asked, level-fault-reads.Learnt, walk-below t, walk.Post)
+claims t = (
+  kind-of-reads.Asked,
+  kind-of-reads.Learnt,
+  operand-of-reads.Asked,
+  operand-of-reads.Learnt,
+  row-in-reads.Asked,
+  row-in-reads.Learnt,
+  field-fault-reads.Asked,
+  field-fault-reads.Learnt,
+  label-fault-reads.Asked,
+  label-fault-reads.Learnt,
+  first-of-reads.Asked,
+  first-of-reads.Learnt,
+  with-reads.Asked,
+  with-reads.Learnt,
+  level-fault-reads.Asked,
+  level-fault-reads.Learnt,
+  walk-below t,
+  walk.Post,
+)
 
 -- a kind whose operand has no test of its own
 record Plain (k : ℕ) : Type 0 where
@@ -127,7 +146,7 @@ module _ (t : ℕ) (c : walk-lts.After-field-fault (claims t) (walk-at t) walk.P
       fine = sym z ∙ faults
 
       room : 1 ≤ start .args .left
-      room = fault-sound (start .args .left) (start .args .tries) (start .args .used .now) here (sym fine) .0
+      room = fault-none (start .args .left) (start .args .tries) (start .args .used .now) here (sym fine) .0
 
       falls-below : start .args .left - 1 < t
       falls-below = omega (arith, room, start .pre .0)
