@@ -8,7 +8,7 @@ use second::table::{length, pack, write};
 use second::trees::{each_tree, inside_loops, kept};
 
 /// A header for n nodes, then these nodes (kind, operand), in bytes as many as they need.
-fn raw(n: usize, nodes: &[(usize, usize)]) -> Vec<u8> {
+pub fn raw(n: usize, nodes: &[(usize, usize)]) -> Vec<u8> {
     let mut fields = vec![(1, 4), (n, 12)];
     for &(kind, operand) in nodes {
         fields.extend([(kind, 4), (operand, 6)]);

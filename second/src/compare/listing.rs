@@ -15,7 +15,7 @@ use second::trees::*;
 use std::collections::BTreeSet;
 
 /// Buffers for 70 reactions.
-const ROOMY: [usize; 3] = [4 * 70, 70, 8 * 70];
+pub const ROOMY: [usize; 3] = [4 * 70, 70, 8 * 70];
 
 /// The signals that a statement uses, also in declarations.
 pub fn signals(p: &Statement) -> u32 {
@@ -42,11 +42,11 @@ pub fn work(p: &Statement) -> usize {
     1 + if matches!(p, Signal(_, _)) { 2 * below } else { below }
 }
 
-fn start(assumed: u32) -> Asked {
+pub fn start(assumed: u32) -> Asked {
     Asked { assumed, mark: 0, labels: u64::MAX }
 }
 
-fn resumed(assumed: u32, labels: u64) -> Asked {
+pub fn resumed(assumed: u32, labels: u64) -> Asked {
     Asked { assumed, mark: 1, labels }
 }
 
@@ -126,7 +126,7 @@ pub fn reactions_edge(t: &mut Trial, _: Amount) -> Outcome {
 }
 
 /// So many signals inside one another, around a statement; the innermost is S0.
-fn inside_signals(count: usize, p: Statement) -> Statement {
+pub fn inside_signals(count: usize, p: Statement) -> Statement {
     (0..count).fold(p, |p, i| Signal(i as u8, p.into()))
 }
 

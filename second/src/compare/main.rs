@@ -11,7 +11,9 @@
 
 mod cases;
 mod checking;
+mod faults;
 mod listing;
+mod made;
 mod reaching;
 mod samples;
 mod tool;
@@ -21,7 +23,7 @@ mod trimming;
 use second::met;
 use std::process::ExitCode;
 use std::time::Instant;
-use tool::{Fault, Library, Operation, Plain, Planted, Second, FAULTS, OPERATIONS};
+use tool::{Library, Operation, Plain, OPERATIONS};
 use trial::{Outcome, Trial};
 
 /// How much to test, in percent of the bounded part.
@@ -53,24 +55,28 @@ type Group = (&'static str, fn(&mut Trial, Amount) -> Outcome);
 fn groups(operation: Operation) -> &'static [Group] {
     match operation {
         Operation::Check => &[
+            ("each refusal", made::check),
             ("one-node tables", checking::one_node),
             ("small trees", checking::small_trees),
             ("edges", checking::edges),
             ("random tables", checking::random_tables),
         ],
         Operation::Reach => &[
+            ("each refusal", made::reach),
             ("small trees", reaching::small_trees),
             ("edges", reaching::edges),
             ("chains, jumps, exits", reaching::made_tables),
             ("random tables", reaching::random_tables),
         ],
         Operation::Trim => &[
+            ("each refusal", made::trim),
             ("small trees", trimming::small_trees),
             ("edges, 1,024 nodes and depth 60", trimming::edges),
             ("every buffer length", trimming::buffers),
             ("random tables", trimming::random_tables),
         ],
         Operation::List => &[
+            ("each refusal", made::list),
             ("small trees", listing::small_trees),
             ("64 and 65 reactions", listing::reactions_edge),
             ("12 and 13 signals", listing::signals_edge),
@@ -128,25 +134,14 @@ impl Results {
     }
 }
 
-/// Each fault has to be reported by a comparison of its operation.
+/// Faults planted in the calls made for each refusal.
 fn planted() -> Outcome {
-    for fault in FAULTS {
-        for operation in OPERATIONS {
-            let none_beyond = matches!(operation, Operation::Check | Operation::Reach);
-            if fault == Fault::Beyond && none_beyond {
-                continue;
-            }
-            let tool = Planted::new(fault);
-            let mut t = Trial::new(&tool);
-            let (_, test) = groups(operation).last().unwrap();
-            if test(&mut t, Amount(1)).is_ok() {
-                return Err(format!("the fault {fault:?} in {operation:?} was not reported"));
-            }
-        }
+    for operation in OPERATIONS {
+        let (_, test) = groups(operation)[0];
+        let (faults, calls) = faults::planted(operation, &|t| test(t, Amount(1)))?;
+        println!("  {operation:?}: {faults} faults, planted in {calls} calls one at a time");
     }
-    // and without a fault nothing is reported
-    let mut t = Trial::new(&Second);
-    OPERATIONS.iter().try_for_each(|op| groups(*op).last().unwrap().1(&mut t, Amount(1)))
+    Ok(())
 }
 
 /// A few calls of each operation of the library, and those of the largest stack, for a run under a
