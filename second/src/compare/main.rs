@@ -84,6 +84,7 @@ fn groups(operation: Operation) -> &'static [Group] {
             ("buffer lengths", listing::buffers),
             ("random programs", listing::random_programs),
             ("crowded programs", listing::crowded_programs),
+            ("tests inside 0 to 12 signals", listing::tested_signals),
             ("edges and random tables", listing::random_tables),
         ],
     }
