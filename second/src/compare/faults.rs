@@ -186,13 +186,17 @@ pub fn planted(
             let tool = Planted { fault, left: Cell::new(turn) };
             let reported = test(&mut Trial::new(&tool)).is_err();
             let struck = tool.left.get() == 0;
-            match (struck, reported) {
-                (true, true) => spoilt += 1,
+            let wrong = match (struck, reported) {
+                (true, true) => {
+                    spoilt += 1;
+                    continue;
+                }
                 (false, false) if turn > 1 => break,
-                (false, false) => return Err(format!("{operation:?}: {fault:?} applies to no call")),
-                (true, false) => return Err(format!("{operation:?}: {fault:?} was not reported")),
-                (false, true) => return Err(format!("{operation:?} was reported without a fault")),
-            }
+                (false, false) => "applies to no call",
+                (true, false) => "was not reported",
+                (false, true) => "was reported and not there",
+            };
+            return Err(format!("{operation:?}: {fault:?} {wrong}"));
         }
     }
     Ok((faults.len(), spoilt))

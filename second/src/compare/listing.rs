@@ -357,14 +357,15 @@ pub fn tested_signals(t: &mut Trial, amount: Amount) -> Outcome {
     let mut random = Random(14);
     for signals in 0..=MOST_SIGNALS {
         let most = if signals > 8 { 16 } else { 30 };
-        for _ in 0..amount.of(600.min(6 << (MOST_SIGNALS - signals))) {
-            let p = loop {
-                let n = random.between(4, most);
-                let p = tested(&mut random, signals as u8, n);
-                if p.nested_signals() <= MOST_SIGNALS && work(&p) <= 200_000 {
-                    break p;
-                }
-            };
+        let mut programs = vec![inside_signals(signals, testing(&mut random, signals as u8, 10))];
+        while programs.len() < amount.of(600.min(6 << (MOST_SIGNALS - signals))) {
+            let n = random.between(4, most);
+            let p = tested(&mut random, signals as u8, n);
+            if p.nested_signals() <= MOST_SIGNALS && work(&p) <= 200_000 {
+                programs.push(p);
+            }
+        }
+        for p in programs {
             let table = write(&p);
             let assumed = random.next() as u32;
             let mut states = vec![start(assumed), resumed(assumed, u64::MAX)];

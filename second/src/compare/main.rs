@@ -1,5 +1,5 @@
-//! The tests: the second implementation by itself, the proved library against it, and faults that
-//! the comparison has to report.
+//! The tests: the second implementation by itself, faults that the comparison has to report, and
+//! then the plain implementation and the proved library against the second.
 //!
 //! second                  the bounded part
 //! second --long           more than ten million calls
@@ -35,12 +35,12 @@ impl Amount {
         (calls * self.0).div_ceil(100)
     }
 
-    /// Visit every so-manyth case of an exhaustive test.
+    /// Visit every so-manyth case of a test that is exhaustive from 100 percent on.
     pub fn step(self) -> usize {
         100_usize.div_ceil(self.0).next_power_of_two()
     }
 
-    /// The nodes of the largest trees that are all visited.
+    /// Up to so many nodes, every tree over the leaves of a test is visited.
     pub fn tree_nodes(self) -> usize {
         match self.0 {
             0..=9 => 4,
@@ -71,8 +71,8 @@ fn groups(operation: Operation) -> &'static [Group] {
         Operation::Trim => &[
             ("each refusal", made::trim),
             ("small trees", trimming::small_trees),
-            ("edges, 1,024 nodes and depth 60", trimming::edges),
-            ("every buffer length", trimming::buffers),
+            ("edges, around 1,024 nodes and depth 60", trimming::edges),
+            ("buffer lengths", trimming::buffers),
             ("random tables", trimming::random_tables),
         ],
         Operation::List => &[
@@ -113,7 +113,9 @@ impl Results {
         }
     }
 
-    /// Compares a tool with the second implementation, and sees that nothing was left unmet.
+    /// Compares a tool with the second implementation, and sees that each thing which the counts name
+    /// was met: the refusals of each operation, the sizes and kinds of nodes in what it accepts, the
+    /// sights, the cases of trimming, the rules of Figure 3, the nestings of signals.
     fn compare(&mut self, t: &mut Trial, name: &str, operations: &[Operation], amount: Amount) {
         met::clear();
         for operation in operations {
@@ -124,7 +126,7 @@ impl Results {
         if operations.contains(&Operation::Trim) && operations.contains(&Operation::List) {
             self.run(&format!("{name}: runs of the trimmed table"), || listing::runs(t, amount));
         }
-        self.run(&format!("{name}: everything was met"), || {
+        self.run(&format!("{name}: what is counted was met"), || {
             let missing = t.counts.missing(operations);
             if missing.is_empty() {
                 return Ok(());

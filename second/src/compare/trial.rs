@@ -86,7 +86,8 @@ impl Counts {
         for &operation in operations {
             let at = operation as usize;
             for refusal in refusals(operation) {
-                refused.push((format!("{operation:?} refused {refusal}"), self.refusals[at][refusal]));
+                let count = self.refusals[at][refusal];
+                refused.push((format!("{operation:?} refused {refusal}"), count));
             }
             for (most, count) in SIZES.iter().zip(self.sizes[at]) {
                 sizes.push((format!("{operation:?} accepted up to {most} nodes"), count));
@@ -103,7 +104,7 @@ impl Counts {
             ("kinds accepted", kinds),
             ("sights", seen),
         ];
-        let events = |events: &[Event]| events.iter().map(|e| (format!("{e:?}"), count(*e))).collect();
+        let events = |all: &[Event]| all.iter().map(|e| (format!("{e:?}"), count(*e))).collect();
         if operations.contains(&Operation::Trim) {
             sorts.push(("cases of trimming", events(CASES)));
         }
