@@ -147,15 +147,17 @@ fn planted() -> Outcome {
     Ok(())
 }
 
-/// A few calls of each operation of the library, and those of the largest stack, for a run under a
-/// memory checker.
+/// Calls of each operation of the library for a run under a memory checker: those made for each
+/// refusal, some random ones, and those of the largest stack.
 fn memory(results: &mut Results) {
     let mut t = Trial::new(&Library);
     t.margin = 0;
     results.run("memory of the largest stack", || listing::largest_stack(&mut t, Amount(1)));
     for operation in OPERATIONS {
-        let (_, test) = groups(operation).last().unwrap();
-        results.run(&format!("memory of {operation:?}"), || test(&mut t, Amount(1)));
+        let groups = groups(operation);
+        for (name, test) in [groups[0], groups[groups.len() - 1]] {
+            results.run(&format!("memory of {operation:?}: {name}"), || test(&mut t, Amount(1)));
+        }
     }
 }
 
