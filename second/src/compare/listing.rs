@@ -51,8 +51,8 @@ pub fn resumed(assumed: u32, labels: u64) -> Asked {
 }
 
 /// Every tree of a few nodes over these leaves that check accepts, S0 being the only signal of inner
-/// nodes: at the start and resumed from every set of its own labels, with S0 assumed and, where the
-/// tree uses it, without.
+/// nodes: at the start and resumed from every set of its own labels, with nothing assumed and, where
+/// the tree uses S0, with S0.
 pub fn small_trees(t: &mut Trial, amount: Amount) -> Outcome {
     let leaves = [Nothing, Pause(1), Pause(2), Gotopause(1), Emit(0), Exit(1)];
     for n in 1..=amount.tree_nodes() {
@@ -321,7 +321,7 @@ fn testing(random: &mut Random, signals: u8, n: usize) -> Statement {
         leaves: [1, 3, 1, 6, 1],
         inner: [0, 6, 4, 4, 1, 1],
     };
-    statement(random, &taste, n, 40)
+    statement(random, &taste, n, 30)
 }
 
 /// A program inside so many signals, most of which it emits and tests. Between them, now and then, a
@@ -351,15 +351,19 @@ fn tested(random: &mut Random, signals: u8, n: usize) -> Statement {
     })
 }
 
-/// Programs inside 0 to 12 signals that have many tests of them, at the start and resumed from
-/// random sets of their labels, under random E. The more signals, the fewer programs.
+/// Programs inside 0 to 12 signals that have many tests of them: under a random E at the start and
+/// resumed from all labels, under another resumed from a random set. The more signals, the fewer and
+/// the smaller the programs; inside up to four, one in ten has hundreds of nodes.
 pub fn tested_signals(t: &mut Trial, amount: Amount) -> Outcome {
     let mut random = Random(14);
     for signals in 0..=MOST_SIGNALS {
-        let most = if signals > 8 { 16 } else { 30 };
         let mut programs = vec![inside_signals(signals, testing(&mut random, signals as u8, 10))];
         while programs.len() < amount.of(600.min(6 << (MOST_SIGNALS - signals))) {
-            let n = random.between(4, most);
+            let n = match signals {
+                0..=4 if random.one_in(10) => random.between(100, 400),
+                0..=8 => random.between(4, 30),
+                _ => random.between(4, 16),
+            };
             let p = tested(&mut random, signals as u8, n);
             if p.nested_signals() <= MOST_SIGNALS && work(&p) <= 200_000 {
                 programs.push(p);
