@@ -36,7 +36,7 @@ fn print_report(before: u16, after: u16, set: u64, rounds: u32) {
     io::write_all(STDOUT_FILENO, b"\n");
 }
 
-// Check's refusals are reach's; of its own trim has 12, and 13 only where the room is short.
+// Reach gives check's refusals. After that trim has only 12 to give, since there is room for the longest table.
 fn report(table: &[u8]) {
     let reached = reach::reach(table);
     let Reached::Found {
@@ -49,7 +49,6 @@ fn report(table: &[u8]) {
         print_refused(reach::refusal(reached));
         return;
     };
-    // Room for the longest table.
     let mut out = [0u8; 1282];
     let trimmed = trim::trim(table, &mut out);
     let Trimmed::Accepted(after) = trimmed else {
