@@ -280,7 +280,7 @@ pub fn crowded_programs(t: &mut Trial, amount: Amount) -> Outcome {
     Ok(())
 }
 
-/// A leaf or a small part without pauses and tests.
+/// A leaf or a small part, without pauses and without tests of these signals.
 fn small(random: &mut Random, signals: u8) -> Statement {
     let emit = |random: &mut Random| Emit(random.below(usize::from(signals) + 2) as u8);
     match random.below(6) {
@@ -353,7 +353,7 @@ fn tested(random: &mut Random, signals: u8, n: usize) -> Statement {
 
 /// Programs inside 0 to 12 signals that have many tests of them: under a random E at the start and
 /// resumed from all labels, under another resumed from a random set. The more signals, the fewer and
-/// the smaller the programs; inside up to four, one in ten has hundreds of nodes.
+/// the smaller the programs; inside up to four, a few have hundreds of nodes.
 pub fn tested_signals(t: &mut Trial, amount: Amount) -> Outcome {
     let mut random = Random(14);
     for signals in 0..=MOST_SIGNALS {
