@@ -1,19 +1,19 @@
 -- `table::reading::walk` meets its contract: at each return it is what the walk comes to there (proofs/Walking). The measure
 -- is the depth that is left.
 use mathlib.Core.Path.{_≡_, sym, ap, _∙_}
-use mathlib.Core.Logic.{_⊎_, inl, inr}
+use mathlib.Core.Logic.{inl, inr, ⊎-elim}
 use mathlib.Core.List.{List}
-use Prim.Native.Nat.{ℕ, _-_, _≤_, _<_, zero-le}
+use Prim.Native.Nat.{ℕ, _+_, _-_, _≤_, _<_}
 use native.Mathlib.Omega.{arith}
 use lib.ListN.{length, getD, take}
 use lib.Seq.{getD-take, length-take-le}
 use borrow.Author.Needs.{needs}
 use Rattle.table.specs.Kinds.{kindOf, rowOf}
 use Rattle.table.specs.Reading.{faultOf}
-use Rattle.table.specs.inner.Loading.{fieldFault}
+use Rattle.table.specs.inner.Loading.{fieldFault, Rows}
 use Rattle.table.proofs.Faults.{Fields, fault-none, fault-kind, fault-other, fault-exit, fault-pause}
-use Rattle.table.proofs.Places.{past}
-use Rattle.table.proofs.Walking.{At, walk-end, walk-fault, walk-pause, walk-leaf, walk-one, walk-try, walk-first, walk-second}
+use Rattle.table.proofs.Places.{none-of-kinds}
+use Rattle.table.proofs.Walking.{At, Parent, signal, present, sequence, parallel, loop, try, parent-inside, walk-end, walk-fault, walk-pause, walk-leaf, walk-first, walk-only, walk-second}
 use borrow.Fn.Kinds.{In}
 use borrow.Fn.PlainCycle.{Measures, is, falls, and}
 use Rattle.table.proofs.reading.walk.Reads as walk
@@ -70,15 +70,10 @@ record Plain (k : ℕ) : Type 0 where
 plain : (k m : ℕ) → k ≡ m → m ≤ 10 → (m ≡ 1 → ⊥) → (m ≡ 4 → ⊥) → Plain k
 plain k m e a b c = record { known = omega arith; no-pause = λ z. b (sym e ∙ z); no-exit = λ z. c (sym e ∙ z) }
 
-plain-one : (k : ℕ) → (k ≡ 5) ⊎ (k ≡ 9) → Plain k
-plain-one k (inl e) = plain k 5 e (omega arith) (λ z. omega arith) (λ z. omega arith)
-plain-one k (inr e) = plain k 9 e (omega arith) (λ z. omega arith) (λ z. omega arith)
-
-plain-try : {k : ℕ} → k ≡ 10 → Plain k
-plain-try {k} e = plain k 10 e (omega arith) (λ z. omega arith) (λ z. omega arith)
-
-plain-two : (k : ℕ) → 6 ≤ k → k ≤ 8 → Plain k
-plain-two k a b = record { known = omega arith; no-pause = λ z. omega arith; no-exit = λ z. omega arith }
+plain-parent : {tries k inside : ℕ} → Parent tries k inside → Plain k
+plain-parent p =
+    let (a, b, c) = parent-inside p in
+    record { known = b; no-pause = λ z. omega arith; no-exit = λ z. omega arith }
 
 -- the first n nodes
 module _ (t : ℕ) (c : walk-lts.Start (claims t) (walk-at t) walk.Post) where
@@ -151,40 +146,51 @@ module _ (t : ℕ) (c : walk-lts.After-field-fault (claims t) (walk-at t) walk.P
       falls-below : start .args .left - 1 < t
       falls-below = omega (arith, room, start .pre .0)
 
--- at a kind with two children
-module _ (t : ℕ) (c : walk-lts.Then4 (claims t) (walk-at t) walk.Post) where
+-- after the decision over the kinds: a node with children
+module _ (t : ℕ) (c : walk-lts.At-match-came (claims t) (walk-at t) walk.Post) where
   abbrev tested : walk-lts.After-field-fault (claims t) (walk-at t) walk.Post
-  tested = c .before .before
+  tested = c .before
 
-  from-six : 6 ≤ kind t tested
-  from-six =
-      let n4 = c .before .match .rest .0 .0 in
-      let n1 = n4 .0 .0 .0 in
-      let no-five : kind t tested ≡ 5 → ⊥ = λ e. c .before .match .rest .0 .1 (inl e) in
-      let k = kind t tested in
-      past 5 k (past 4 k (past 3 k (past 2 k (past 1 k (past 0 k zero-le (n1 .0 .1)) (n1 .1)) (n4 .0 .0 .1)) (n4 .0 .1)) (n4 .1)) no-five
+  parent : Parent (start t tested .args .tries) (kind t tested) (c .match .inside)
+  parent =
+      ⊎-elim (λ w. signal (w .0 .keys6) (w .1))
+      (⊎-elim (λ w. present (w .0 .keys7) (w .1))
+      (⊎-elim (λ w. sequence (w .0 .keys8) (w .1))
+      (⊎-elim (λ w. parallel (w .0 .keys9) (w .1))
+      (⊎-elim (λ w. loop (w .0 .keys10) (w .1))
+      (λ w. try (w .0 .keys11) (w .1))))))
+      (c .match .came)
 
-  to-eight : kind t tested ≤ 8
-  to-eight = omega (arith, c .if4 .taken)
+  many : tested .before .row-in .result .children ≡ rowOf (kindOf (kind t tested)) .children
+  many = ap (λ r. r .children) (tested .before .row-in .ensures)
 
-  both : Plain (kind t tested)
-  both = plain-two (kind t tested) from-six to-eight
-
--- at none of the kinds
-module _ (t : ℕ) (c : walk-lts.Else4 (claims t) (walk-at t) walk.Post) where
-  abbrev decided : walk-lts.After-field-fault (claims t) (walk-at t) walk.Post
-  decided = c .before .before
-
-  unknown : 6 ≡ faulty t decided
+-- a kind that is none
+module _ (t : ℕ) (c : walk-lts.At-match-rest (claims t) (walk-at t) walk.Post) where
+  unknown : 6 ≡ faulty t (c .before)
   unknown =
-      let a = start t decided .args in
-      let no-nine : kind t decided ≡ 9 → ⊥ = λ e. c .before .match .rest .0 .1 (inr e) in
-      fault-kind (a .left) (a .tries) (a .used .now) (here t decided) (kind t decided) (named t decided .kind-of .ensures)
-      (omega (arith, c .if4 .left, no-nine, c .before .match .rest .1))
+      let a = start t (c .before) .args in
+      let k = kind t (c .before) in
+      fault-kind (a .left) (a .tries) (a .used .now) (here t (c .before)) k (named t (c .before) .kind-of .ensures) (none-of-kinds k (c .match .rest))
+
+-- without a fault
+module _ (t : ℕ) (c : walk-lts.Else3 (claims t) (walk-at t) walk.Post) where
+  whole : 0 ≡ faulty t (c .before .before)
+  whole = fine t (c .before .before) (plain-parent (parent t (c .before))) (c .if3 .left)
+
+  -- what the walk over a child asks
+  below : (start t (c .before .before) .args .left - 1 < t)
+      × ((start t (c .before .before) .args .n ≤ 1024) × (length (start t (c .before .before) .args .nodes .now) ≡ 1024)
+      × (c .before .match .inside + (start t (c .before .before) .args .left - 1) < 255) × Rows (start t (c .before .before) .args .rows .now))
+  below =
+      let k = c .before .before in
+      let p = start t k .pre .1 in
+      let q = parent t (c .before) in
+      let r = room t k (plain-parent q) (c .if3 .left) in
+      (falls-below t k (plain-parent q) (c .if3 .left), (p .0, p .1, omega (arith, parent-inside q .2, r, p .2), p .3))
 
 module _ (t : ℕ) where
   returns : walk-lts.Need-returns (claims t) (walk-at t) walk.Post
-  returns c = 
+  returns c =
       let s = c .before .before in
       walk-end (s .args .n) (those t s) (s .args .left) (s .args .tries) (s .args .at .now) (s .args .used .now) _ _ (counted t s) (c .if1 .taken)
 
@@ -201,13 +207,19 @@ module _ (t : ℕ) where
   operand-of-requires c κs = search needs
 
   row-in-requires : walk-lts.Need-row-in-requires (claims t) (walk-at t) walk.Post
-  row-in-requires c κs = let s = begun t (c .before .before .before) in s .pre .1 .3
+  row-in-requires c κs = search needs
 
   field-fault-requires : walk-lts.Need-field-fault-requires (claims t) (walk-at t) walk.Post
   field-fault-requires c κs = search needs
 
   add-at : walk-lts.Need-add-at (claims t) (walk-at t) walk.Post
   add-at c = omega arith
+
+  returns-2 : walk-lts.Need-returns-2 (claims t) (walk-at t) walk.Post
+  returns-2 c =
+      let k = c .before in
+      let e = c .match .keys1 in
+      walk-leaf (at t k) (inl e) (fault t k) (faults t k (plain (kind t k) 0 e (omega arith) (λ z. omega arith) (λ z. omega arith)))
 
   label-fault-requires : walk-lts.Need-label-fault-requires (claims t) (walk-at t) walk.Post
   label-fault-requires c κs = search needs
@@ -216,106 +228,12 @@ module _ (t : ℕ) where
   first-of-requires c κs = search needs
 
   with-requires : walk-lts.Need-with-requires (claims t) (walk-at t) walk.Post
-  with-requires c κs = omega (arith, c .before .before .before .before .before .before .operand-of .ensures)
-
-  level-fault-requires : walk-lts.Need-level-fault-requires (claims t) (walk-at t) walk.Post
-  level-fault-requires c κs = search needs
-
-  first-of-requires-2 : walk-lts.Need-first-of-requires-2 (claims t) (walk-at t) walk.Post
-  first-of-requires-2 c κs = search needs
-
-  returns-2 : walk-lts.Need-returns-2 (claims t) (walk-at t) walk.Post
-  returns-2 c = 
-      let m = c .before in
-      let k = m .before in
-      walk-fault (at t k) (fault t k) _ _ (faults t k (plain-one (kind t k) (m .match .keys6))) (c .if2 .taken)
-
-  sub-walk : walk-lts.Need-sub-walk (claims t) (walk-at t) walk.Post
-  sub-walk c = 
-      let m = c .before in
-      room t (m .before) (plain-one (kind t (m .before)) (m .match .keys6)) (c .if2 .left)
-
-  walk-requires : walk-lts.Need-walk-requires (claims t) (walk-at t) walk.Post
-  walk-requires c κs = 
-      let e = c .before .before in
-      let m = e .before in
-      let k = m .before in
-      let p = start t k .pre .1 in
-      let r = plain-one (kind t k) (m .match .keys6) in
-      (falls-below t k r (e .if2 .left), (p .0, p .1, omega (arith, p .2), p .3))
+  with-requires c κs =
+      let k = c .before .before .before .before in
+      omega (arith, k .before .before .operand-of .ensures)
 
   returns-3 : walk-lts.Need-returns-3 (claims t) (walk-at t) walk.Post
-  returns-3 c = 
-      let m = c .before in
-      let k = m .before in
-      walk-fault (at t k) (fault t k) _ _ (faults t k (plain-try (m .match .keys7))) (c .if3 .taken)
-
-  sub-walk-2 : walk-lts.Need-sub-walk-2 (claims t) (walk-at t) walk.Post
-  sub-walk-2 c = 
-      let m = c .before in
-      room t (m .before) (plain-try (m .match .keys7)) (c .if3 .left)
-
-  add-walk : walk-lts.Need-add-walk (claims t) (walk-at t) walk.Post
-  add-walk c = 
-      let m = c .before in
-      let k = m .before in
-      omega (arith, room t k (plain-try (m .match .keys7)) (c .if3 .left), start t k .pre .1 .2)
-
-  walk-requires-2 : walk-lts.Need-walk-requires-2 (claims t) (walk-at t) walk.Post
-  walk-requires-2 c κs = 
-      let e = c .before .before in
-      let m = e .before in
-      let k = m .before in
-      let p = start t k .pre .1 in
-      let r = plain-try (m .match .keys7) in
-      (falls-below t k r (e .if3 .left), (p .0, p .1, omega (arith, room t k r (e .if3 .left), p .2), p .3))
-
-  returns-4 : walk-lts.Need-returns-4 (claims t) (walk-at t) walk.Post
-  returns-4 c = 
-      let m = c .before in
-      let k = tested t m in
-      walk-fault (at t k) (fault t k) _ _ (faults t k (both t m)) (c .if5 .taken)
-
-  sub-walk-3 : walk-lts.Need-sub-walk-3 (claims t) (walk-at t) walk.Post
-  sub-walk-3 c = room t (tested t (c .before)) (both t (c .before)) (c .if5 .left)
-
-  walk-requires-3 : walk-lts.Need-walk-requires-3 (claims t) (walk-at t) walk.Post
-  walk-requires-3 c κs = 
-      let e = c .before .before in
-      let k = tested t (e .before) in
-      let p = start t k .pre .1 in
-      (falls-below t k (both t (e .before)) (e .if5 .left), (p .0, p .1, omega (arith, p .2), p .3))
-
-  returns-5 : walk-lts.Need-returns-5 (claims t) (walk-at t) walk.Post
-  returns-5 c = 
-      let w = c .before in
-      let e = w .before .before .before in
-      let m = e .before in
-      let k = tested t m in
-      walk-first (at t k) (w .walk3 .result) _ _ (from-six t m) (to-eight t m) (fine t k (both t m) (e .if5 .left))
-      (w .walk3 .last .1 .1 .1 .1 .0) (w .walk3 .last .1 .1 .1 .1 .1 .0) (c .if6 .taken) (w .walk3 .ensures)
-
-  sub-walk-4 : walk-lts.Need-sub-walk-4 (claims t) (walk-at t) walk.Post
-  sub-walk-4 c = 
-      let e = c .before .before .before .before in
-      room t (tested t (e .before)) (both t (e .before)) (e .if5 .left)
-
-  walk-requires-4 : walk-lts.Need-walk-requires-4 (claims t) (walk-at t) walk.Post
-  walk-requires-4 c κs = 
-      let g = c .before .before in
-      let e = g .before .before .before .before in
-      let k = tested t (e .before) in
-      let p = start t k .pre .1 in
-      (falls-below t k (both t (e .before)) (e .if5 .left), (p .0, p .1, omega (arith, p .2), p .3))
-
-  returns-6 : walk-lts.Need-returns-6 (claims t) (walk-at t) walk.Post
-  returns-6 c = 
-      let k = c .before in
-      let e = c .match .keys1 in
-      walk-leaf (at t k) (inl e) (fault t k) (faults t k (plain (kind t k) 0 e (omega arith) (λ z. omega arith) (λ z. omega arith)))
-
-  returns-7 : walk-lts.Need-returns-7 (claims t) (walk-at t) walk.Post
-  returns-7 c = 
+  returns-3 c =
       let l = c .before .before in
       let m = l .before .before in
       let k = m .before in
@@ -324,20 +242,26 @@ module _ (t : ℕ) where
       (fault-pause (start t k .args .tries) (start t k .args .used .now) (fields t k (omega arith)) e (l .label-fault .result) (c .before .first-of .result) (l .label-fault .ensures)
       (c .before .first-of .ensures))
 
-  returns-8 : walk-lts.Need-returns-8 (claims t) (walk-at t) walk.Post
-  returns-8 c = 
+  returns-4 : walk-lts.Need-returns-4 (claims t) (walk-at t) walk.Post
+  returns-4 c =
       let k = c .before in
       let e = c .match .keys3 in
       walk-leaf (at t k) (inr (inl e)) (fault t k) (faults t k (plain (kind t k) 2 e (omega arith) (λ z. omega arith) (λ z. omega arith)))
 
-  returns-9 : walk-lts.Need-returns-9 (claims t) (walk-at t) walk.Post
-  returns-9 c = 
+  returns-5 : walk-lts.Need-returns-5 (claims t) (walk-at t) walk.Post
+  returns-5 c =
       let k = c .before in
       let e = c .match .keys4 in
       walk-leaf (at t k) (inr (inr (inl e))) (fault t k) (faults t k (plain (kind t k) 3 e (omega arith) (λ z. omega arith) (λ z. omega arith)))
 
-  returns-10 : walk-lts.Need-returns-10 (claims t) (walk-at t) walk.Post
-  returns-10 c = 
+  level-fault-requires : walk-lts.Need-level-fault-requires (claims t) (walk-at t) walk.Post
+  level-fault-requires c κs = search needs
+
+  first-of-requires-2 : walk-lts.Need-first-of-requires-2 (claims t) (walk-at t) walk.Post
+  first-of-requires-2 c κs = search needs
+
+  returns-6 : walk-lts.Need-returns-6 (claims t) (walk-at t) walk.Post
+  returns-6 c =
       let l = c .before in
       let m = l .before in
       let k = m .before in
@@ -345,38 +269,62 @@ module _ (t : ℕ) where
       walk-leaf (at t k) (inr (inr (inr e))) (c .first-of2 .result)
       (fault-exit (start t k .args .tries) (start t k .args .used .now) (fields t k (omega arith)) e (l .level-fault .result) (c .first-of2 .result) (l .level-fault .ensures) (c .first-of2 .ensures))
 
+  add-inside : walk-lts.Need-add-inside (claims t) (walk-at t) walk.Post
+  add-inside c = omega (arith, start t (c .before) .pre .1 .2)
+
+  returns-7 : walk-lts.Need-returns-7 (claims t) (walk-at t) walk.Post
+  returns-7 c = walk-fault (at t (c .before .before)) 6 _ _ (unknown t (c .before)) (λ z. omega arith)
+
+  returns-8 : walk-lts.Need-returns-8 (claims t) (walk-at t) walk.Post
+  returns-8 c = walk-fault (at t (c .before .before)) 6 _ _ (unknown t (c .before)) (λ z. omega arith)
+
+  returns-9 : walk-lts.Need-returns-9 (claims t) (walk-at t) walk.Post
+  returns-9 c =
+      let m = c .before in
+      let k = m .before in
+      walk-fault (at t k) (fault t k) _ _ (faults t k (plain-parent (parent t m))) (c .if3 .taken)
+
+  sub-walk : walk-lts.Need-sub-walk (claims t) (walk-at t) walk.Post
+  sub-walk c = room t (c .before .before) (plain-parent (parent t (c .before))) (c .if3 .left)
+
+  walk-requires : walk-lts.Need-walk-requires (claims t) (walk-at t) walk.Post
+  walk-requires c κs = below t (c .before .before)
+
+  returns-10 : walk-lts.Need-returns-10 (claims t) (walk-at t) walk.Post
+  returns-10 c =
+      let w = c .before in
+      let e = w .before .before .before in
+      let m = e .before in
+      walk-first (at t (m .before)) (parent t m) (whole t e) (w .walk .result) (w .walk .last .1 .1 .1 .1 .0) (w .walk .last .1 .1 .1 .1 .1 .0) _ _ (c .if4 .taken) (w .walk .ensures)
+
   returns-11 : walk-lts.Need-returns-11 (claims t) (walk-at t) walk.Post
-  returns-11 c = 
-      let e = c .before .before .before in
-      let m = e .before in
-      let k = m .before in
-      walk-one (at t k) (c .walk .result) (c .walk .last .1 .1 .1 .1 .0) (c .walk .last .1 .1 .1 .1 .1 .0) (m .match .keys6)
-      (fine t k (plain-one (kind t k) (m .match .keys6)) (e .if2 .left)) (c .walk .ensures)
-
-  returns-12 : walk-lts.Need-returns-12 (claims t) (walk-at t) walk.Post
-  returns-12 c = 
-      let e = c .before .before .before in
-      let m = e .before in
-      let k = m .before in
-      walk-try (at t k) (c .walk2 .result) (c .walk2 .last .1 .1 .1 .1 .0) (c .walk2 .last .1 .1 .1 .1 .1 .0) (m .match .keys7)
-      (fine t k (plain-try (m .match .keys7)) (e .if3 .left)) (c .walk2 .ensures)
-
-  returns-13 : walk-lts.Need-returns-13 (claims t) (walk-at t) walk.Post
-  returns-13 c = 
-      let g = c .before .before .before in
+  returns-11 c =
+      let g = c .before .before in
       let w = g .before in
       let e = w .before .before .before in
       let m = e .before in
-      let k = tested t m in
-      walk-second (at t k) (c .walk4 .result) (c .walk4 .last .1 .1 .1 .1 .0) (c .walk4 .last .1 .1 .1 .1 .1 .0)
-      (from-six t m) (to-eight t m) (fine t k (both t m) (e .if5 .left))
-      (w .walk3 .result) (w .walk3 .last .1 .1 .1 .1 .0) (w .walk3 .last .1 .1 .1 .1 .1 .0) (g .if6 .left) (w .walk3 .ensures) (c .walk4 .ensures)
+      walk-only (at t (m .before)) (parent t m) (whole t e) (w .walk .result) (w .walk .last .1 .1 .1 .1 .0) (w .walk .last .1 .1 .1 .1 .1 .0)
+      (sym (many t m) ∙ c .if5 .taken) (g .if4 .left) (w .walk .ensures)
 
-  returns-14 : walk-lts.Need-returns-14 (claims t) (walk-at t) walk.Post
-  returns-14 c = walk-fault (at t (decided t (c .before))) 6 _ _ (unknown t (c .before)) (λ z. omega arith)
+  sub-walk-2 : walk-lts.Need-sub-walk-2 (claims t) (walk-at t) walk.Post
+  sub-walk-2 c =
+      let e = c .before .before .before .before .before .before in
+      room t (e .before .before) (plain-parent (parent t (e .before))) (e .if3 .left)
 
-  returns-15 : walk-lts.Need-returns-15 (claims t) (walk-at t) walk.Post
-  returns-15 c = walk-fault (at t (decided t (c .before))) 6 _ _ (unknown t (c .before)) (λ z. omega arith)
+  walk-requires-2 : walk-lts.Need-walk-requires-2 (claims t) (walk-at t) walk.Post
+  walk-requires-2 c κs =
+      let g = c .before .before in
+      below t (g .before .before .before .before .before .before)
+
+  returns-12 : walk-lts.Need-returns-12 (claims t) (walk-at t) walk.Post
+  returns-12 c =
+      let h = c .before .before .before in
+      let g = h .before .before in
+      let w = g .before in
+      let e = w .before .before .before in
+      let m = e .before in
+      walk-second (at t (m .before)) (parent t m) (whole t e) (c .walk2 .result) (c .walk2 .last .1 .1 .1 .1 .0) (c .walk2 .last .1 .1 .1 .1 .1 .0)
+      (w .walk .result) (w .walk .last .1 .1 .1 .1 .0) (w .walk .last .1 .1 .1 .1 .1 .0) (λ z. h .if5 .left (many t m ∙ z)) (g .if4 .left) (w .walk .ensures) (c .walk2 .ensures)
 
 pub +walk-spec : {M : Type 1} → statement M
 +walk-spec =
@@ -394,31 +342,24 @@ pub +walk-spec : {M : Type 1} → statement M
     (row-in-requires t)
     (field-fault-requires t)
     (add-at t)
+    (returns-2 t)
     (label-fault-requires t)
     (first-of-requires t)
     (with-requires t)
+    (returns-3 t)
+    (returns-4 t)
+    (returns-5 t)
     (level-fault-requires t)
     (first-of-requires-2 t)
-    (returns-2 t)
-    (sub-walk t)
-    (walk-requires t)
-    (returns-3 t)
-    (sub-walk-2 t)
-    (add-walk t)
-    (walk-requires-2 t)
-    (returns-4 t)
-    (sub-walk-3 t)
-    (walk-requires-3 t)
-    (returns-5 t)
-    (sub-walk-4 t)
-    (walk-requires-4 t)
     (returns-6 t)
+    (add-inside t)
     (returns-7 t)
     (returns-8 t)
     (returns-9 t)
+    (sub-walk t)
+    (walk-requires t)
     (returns-10 t)
     (returns-11 t)
+    (sub-walk-2 t)
+    (walk-requires-2 t)
     (returns-12 t)
-    (returns-13 t)
-    (returns-14 t)
-    (returns-15 t)
