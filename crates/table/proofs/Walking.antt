@@ -161,7 +161,7 @@ module _ {n : ℕ} {xs : List ℕ} {left tries at used x k : ℕ} (f : At n xs l
   unfolding readKind kindOf kinds
   walk-pause e o used′ w q u h = went (Statement.pause o) used′ w (rw (e, u, q)) h
 
-  -- a node with children: the first one stops the walk, or is the only one, or is followed by the second
+  -- a node with children: the only one, or the first one, which stops the walk or is followed by the second
   module _ {inside : ℕ} (p : Parent tries k inside) (z : 0 ≡ fault) where
     abbrev first : Reading
     first = below inside used rest
@@ -184,14 +184,11 @@ module _ {n : ℕ} {xs : List ℕ} {left tries at used x k : ℕ} (f : At n xs l
         go (one g c e) = gone (withOne first g) r at′ used′ (by-kind z ∙ e) (walked-one n first g r at′ used′ (stops first h))
         go (two g c e) = gone (withTwo first (below inside) g) r at′ used′ (by-kind z ∙ e) (both first g h)
 
-    pub walk-only : (r at′ used′ : ℕ) → children k ≡ 1 → r ≡ 0 → WalkedAt n xs (left - 1) inside (at + 1) used r at′ used′ → Goes 0 at′ used′
-    walk-only r at′ used′ c i h = go shaped
+    pub walk-only : (r at′ used′ : ℕ) → children k ≡ 1 → WalkedAt n xs (left - 1) inside (at + 1) used r at′ used′ → Goes r at′ used′
+    walk-only r at′ used′ c h = go shaped
       where
-        ended : WalkedAt n xs (left - 1) inside (at + 1) used 0 at′ used′
-        ended = subst (λ (r : ℕ). WalkedAt n xs (left - 1) inside (at + 1) used r at′ used′) i h
-
-        go : Shape (x % 64) below tries used rest k inside → Goes 0 at′ used′
-        go (one g c e) = gone (withOne first g) 0 at′ used′ (by-kind z ∙ e) (walked-one n first g 0 at′ used′ ended)
+        go : Shape (x % 64) below tries used rest k inside → Goes r at′ used′
+        go (one g c e) = gone (withOne first g) r at′ used′ (by-kind z ∙ e) (walked-one n first g r at′ used′ h)
         go (two g d e) = absurd (omega arith)
 
     pub walk-second : (r at′ used′ r′ next labels : ℕ) → (children k ≡ 1 → ⊥) → r′ ≡ 0 → WalkedAt n xs (left - 1) inside (at + 1) used r′ next labels

@@ -211,12 +211,12 @@ fn walk(
     if fault != 0 {
         return fault;
     }
+    if row.children == 1 {
+        return walk(nodes, n, left - 1, inside, at, used, rows);
+    }
     let first = walk(nodes, n, left - 1, inside, at, used, rows);
     if first != 0 {
         return first;
-    }
-    if row.children == 1 {
-        return 0;
     }
     walk(nodes, n, left - 1, inside, at, used, rows)
 }

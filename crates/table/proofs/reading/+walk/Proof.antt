@@ -177,6 +177,9 @@ module _ (t : ℕ) (c : walk-lts.Else3 (claims t) (walk-at t) walk.Post) where
   whole : 0 ≡ faulty t (c .before .before)
   whole = fine t (c .before .before) (plain-parent (parent t (c .before))) (c .if3 .left)
 
+  deep : 1 ≤ start t (c .before .before) .args .left
+  deep = room t (c .before .before) (plain-parent (parent t (c .before))) (c .if3 .left)
+
   -- what the walk over a child asks
   below : (start t (c .before .before) .args .left - 1 < t)
       × ((start t (c .before .before) .args .n ≤ 1024) × (length (start t (c .before .before) .args .nodes .now) ≡ 1024)
@@ -185,8 +188,7 @@ module _ (t : ℕ) (c : walk-lts.Else3 (claims t) (walk-at t) walk.Post) where
       let k = c .before .before in
       let p = start t k .pre .1 in
       let q = parent t (c .before) in
-      let r = room t k (plain-parent q) (c .if3 .left) in
-      (falls-below t k (plain-parent q) (c .if3 .left), (p .0, p .1, omega (arith, parent-inside q .2, r, p .2), p .3))
+      (falls-below t k (plain-parent q) (c .if3 .left), (p .0, p .1, omega (arith, parent-inside q .2, deep, p .2), p .3))
 
 module _ (t : ℕ) where
   returns : walk-lts.Need-returns (claims t) (walk-at t) walk.Post
@@ -285,46 +287,53 @@ module _ (t : ℕ) where
       walk-fault (at t k) (fault t k) _ _ (faults t k (plain-parent (parent t m))) (c .if3 .taken)
 
   sub-walk : walk-lts.Need-sub-walk (claims t) (walk-at t) walk.Post
-  sub-walk c = room t (c .before .before) (plain-parent (parent t (c .before))) (c .if3 .left)
+  sub-walk c = deep t (c .before .before)
 
   walk-requires : walk-lts.Need-walk-requires (claims t) (walk-at t) walk.Post
-  walk-requires c κs = below t (c .before .before)
+  walk-requires c κs = below t (c .before .before .before .before)
 
   returns-10 : walk-lts.Need-returns-10 (claims t) (walk-at t) walk.Post
   returns-10 c =
-      let w = c .before in
-      let e = w .before .before .before in
+      let g = c .before .before .before in
+      let e = g .before .before in
       let m = e .before in
-      walk-first (at t (m .before)) (parent t m) (whole t e) (w .walk .result) (w .walk .last .1 .1 .1 .1 .0) (w .walk .last .1 .1 .1 .1 .1 .0) _ _ (c .if4 .taken) (w .walk .ensures)
+      walk-only (at t (m .before)) (parent t m) (whole t e) (c .walk .result) (c .walk .last .1 .1 .1 .1 .0) (c .walk .last .1 .1 .1 .1 .1 .0)
+      (sym (many t m) ∙ g .if4 .taken) (c .walk .ensures)
+
+  sub-walk-2 : walk-lts.Need-sub-walk-2 (claims t) (walk-at t) walk.Post
+  sub-walk-2 c = deep t (c .before .before)
+
+  walk-requires-2 : walk-lts.Need-walk-requires-2 (claims t) (walk-at t) walk.Post
+  walk-requires-2 c κs = below t (c .before .before .before .before)
 
   returns-11 : walk-lts.Need-returns-11 (claims t) (walk-at t) walk.Post
   returns-11 c =
-      let g = c .before .before in
-      let w = g .before in
-      let e = w .before .before .before in
+      let w = c .before in
+      let g = w .before .before .before in
+      let e = g .before .before in
       let m = e .before in
-      walk-only (at t (m .before)) (parent t m) (whole t e) (w .walk .result) (w .walk .last .1 .1 .1 .1 .0) (w .walk .last .1 .1 .1 .1 .1 .0)
-      (sym (many t m) ∙ c .if5 .taken) (g .if4 .left) (w .walk .ensures)
+      walk-first (at t (m .before)) (parent t m) (whole t e) (w .walk2 .result) (w .walk2 .last .1 .1 .1 .1 .0) (w .walk2 .last .1 .1 .1 .1 .1 .0) _ _ (c .if5 .taken) (w .walk2 .ensures)
 
-  sub-walk-2 : walk-lts.Need-sub-walk-2 (claims t) (walk-at t) walk.Post
-  sub-walk-2 c =
-      let e = c .before .before .before .before .before .before in
-      room t (e .before .before) (plain-parent (parent t (e .before))) (e .if3 .left)
+  sub-walk-3 : walk-lts.Need-sub-walk-3 (claims t) (walk-at t) walk.Post
+  sub-walk-3 c =
+      let g = c .before .before .before .before in
+      deep t (g .before .before)
 
-  walk-requires-2 : walk-lts.Need-walk-requires-2 (claims t) (walk-at t) walk.Post
-  walk-requires-2 c κs =
-      let g = c .before .before in
-      below t (g .before .before .before .before .before .before)
+  walk-requires-3 : walk-lts.Need-walk-requires-3 (claims t) (walk-at t) walk.Post
+  walk-requires-3 c κs =
+      let h = c .before .before in
+      let g = h .before .before .before .before in
+      below t (g .before .before)
 
   returns-12 : walk-lts.Need-returns-12 (claims t) (walk-at t) walk.Post
   returns-12 c =
       let h = c .before .before .before in
-      let g = h .before .before in
-      let w = g .before in
-      let e = w .before .before .before in
+      let w = h .before in
+      let g = w .before .before .before in
+      let e = g .before .before in
       let m = e .before in
-      walk-second (at t (m .before)) (parent t m) (whole t e) (c .walk2 .result) (c .walk2 .last .1 .1 .1 .1 .0) (c .walk2 .last .1 .1 .1 .1 .1 .0)
-      (w .walk .result) (w .walk .last .1 .1 .1 .1 .0) (w .walk .last .1 .1 .1 .1 .1 .0) (λ z. h .if5 .left (many t m ∙ z)) (g .if4 .left) (w .walk .ensures) (c .walk2 .ensures)
+      walk-second (at t (m .before)) (parent t m) (whole t e) (c .walk3 .result) (c .walk3 .last .1 .1 .1 .1 .0) (c .walk3 .last .1 .1 .1 .1 .1 .0)
+      (w .walk2 .result) (w .walk2 .last .1 .1 .1 .1 .0) (w .walk2 .last .1 .1 .1 .1 .1 .0) (λ z. g .if4 .left (many t m ∙ z)) (h .if5 .left) (w .walk2 .ensures) (c .walk3 .ensures)
 
 pub +walk-spec : {M : Type 1} → statement M
 +walk-spec =
@@ -359,7 +368,9 @@ pub +walk-spec : {M : Type 1} → statement M
     (sub-walk t)
     (walk-requires t)
     (returns-10 t)
-    (returns-11 t)
     (sub-walk-2 t)
     (walk-requires-2 t)
+    (returns-11 t)
+    (sub-walk-3 t)
+    (walk-requires-3 t)
     (returns-12 t)
