@@ -2,10 +2,13 @@
 -- at the end, at a fault, and at each shape of a kind.
 use mathlib.Core.Path.{_≡_, refl, sym, ap, _∙_, subst}
 use mathlib.Core.Logic.{_⊎_, inl, inr}
+use mathlib.Core.Bool.{cond}
 use mathlib.Core.List.{List, [], _∷_, _++_}
 use Prim.Native.Nat.{ℕ, zero, suc, _+_, _-_, _/_, _%_, _≤_, _<_}
 use native.Mathlib.Numerals.{add-one, sub-one}
+use native.Mathlib.Nat.{add-zero}
 use native.Mathlib.Omega.{arith}
+use lib.Dec.{eqb}
 use lib.ListN.{length, getD, drop, length-drop, length-append, drop-of-length-le}
 use lib.Seq.{drop-cons}
 use Rattle.sets.specs.Set.{only, _union_}
@@ -46,21 +49,10 @@ module _ (o : ℕ) (child : Child) (tries used : ℕ) (xs : List ℕ) where
   leaf-kind k (inr (inr (inr e))) = (Statement.exit o, rw e)
 
 -- a kind with children, and the number of try statements around them
-pub data Parent (tries k inside : ℕ) : Type 0 where
-  signal : k ≡ 5 → inside ≡ tries → Parent tries k inside
-  present : k ≡ 6 → inside ≡ tries → Parent tries k inside
-  sequence : k ≡ 7 → inside ≡ tries → Parent tries k inside
-  parallel : k ≡ 8 → inside ≡ tries → Parent tries k inside
-  loop : k ≡ 9 → inside ≡ tries → Parent tries k inside
-  try : k ≡ 10 → inside ≡ tries + 1 → Parent tries k inside
-
-pub parent-inside : {tries k inside : ℕ} → Parent tries k inside → (5 ≤ k) × (k ≤ 10) × (inside ≤ tries + 1)
-parent-inside (signal e i) = (omega arith, omega arith, omega arith)
-parent-inside (present e i) = (omega arith, omega arith, omega arith)
-parent-inside (sequence e i) = (omega arith, omega arith, omega arith)
-parent-inside (parallel e i) = (omega arith, omega arith, omega arith)
-parent-inside (loop e i) = (omega arith, omega arith, omega arith)
-parent-inside (try e i) = (omega arith, omega arith, omega arith)
+pub record Parent (tries k inside : ℕ) : Type 0 where
+  pub from : 5 ≤ k
+  pub to : k ≤ 10
+  pub around : inside ≡ tries + cond (eqb k 10) 1 0
 
 -- how it reads: the row of its kind says whether it has one child or two
 abbrev children : ℕ → ℕ
@@ -72,15 +64,24 @@ data Shape (o : ℕ) (child : Child) (tries used : ℕ) (xs : List ℕ) (k insid
   two : (f : Statement → Statement → Statement) → children k ≡ 2
       → readKind (kindOf k) o child tries used xs ≡ withTwo (child inside used xs) (child inside) f → Shape o child tries used xs k inside
 
-module _ (o : ℕ) (child : Child) (tries used : ℕ) (xs : List ℕ) {k inside : ℕ} where
-  shape : Parent tries k inside → Shape o child tries used xs k inside
+module _ (o : ℕ) (child : Child) (tries used : ℕ) (xs : List ℕ) where
+  shape-of : (k : ℕ) → 5 ≤ k → k ≤ 10 → Shape o child tries used xs k (tries + cond (eqb k 10) 1 0)
   unfolding readKind rowOf kindOf kinds
-  shape (signal e i) = one (Statement.signal o) (rw e) (rw (e, i))
-  shape (present e i) = two (Statement.present o) (rw e) (rw (e, i))
-  shape (sequence e i) = two Statement.sequence (rw e) (rw (e, i))
-  shape (parallel e i) = two Statement.parallel (rw e) (rw (e, i))
-  shape (loop e i) = one Statement.loop (rw e) (rw (e, i))
-  shape (try e i) = one Statement.try (rw e) (rw (e, i, ← add-one tries))
+  shape-of zero a b = absurd (omega arith)
+  shape-of (suc zero) a b = absurd (omega arith)
+  shape-of (suc (suc zero)) a b = absurd (omega arith)
+  shape-of (suc (suc (suc zero))) a b = absurd (omega arith)
+  shape-of (suc (suc (suc (suc zero)))) a b = absurd (omega arith)
+  shape-of (suc (suc (suc (suc (suc zero))))) a b = one (Statement.signal o) refl (rw add-zero)
+  shape-of (suc (suc (suc (suc (suc (suc zero)))))) a b = two (Statement.present o) refl (rw add-zero)
+  shape-of (suc (suc (suc (suc (suc (suc (suc zero))))))) a b = two Statement.sequence refl (rw add-zero)
+  shape-of (suc (suc (suc (suc (suc (suc (suc (suc zero)))))))) a b = two Statement.parallel refl (rw add-zero)
+  shape-of (suc (suc (suc (suc (suc (suc (suc (suc (suc zero))))))))) a b = one Statement.loop refl (rw add-zero)
+  shape-of (suc (suc (suc (suc (suc (suc (suc (suc (suc (suc zero)))))))))) a b = one Statement.try refl (rw add-one)
+  shape-of (suc (suc (suc (suc (suc (suc (suc (suc (suc (suc (suc k))))))))))) a b = absurd (omega arith)
+
+  shape : {k inside : ℕ} → Parent tries k inside → Shape o child tries used xs k inside
+  shape {k} p = subst (Shape o child tries used xs k) (sym (p .around)) (shape-of k (p .from) (p .to))
 
 -- ---- Walks
 -- a statement around a reading changes neither the place nor the labels

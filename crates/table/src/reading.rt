@@ -7,12 +7,8 @@ use crate::kinds::EMIT;
 use crate::kinds::EXIT;
 use crate::kinds::GOTOPAUSE;
 use crate::kinds::KINDS;
-use crate::kinds::LOOP;
 use crate::kinds::NOTHING;
-use crate::kinds::PARALLEL;
 use crate::kinds::PAUSE;
-use crate::kinds::PRESENT;
-use crate::kinds::SEQUENCE;
 use crate::kinds::SIGNAL;
 use crate::kinds::TRY;
 use crate::kinds::kind_of;
@@ -163,6 +159,13 @@ fn field_fault(operand: u8, row: Row, left: usize) -> u8
     first_of(range, depth_fault(left))
 }
 
+// How many try statements a node adds around its children.
+fn tried(kind: u16) -> u8
+    ensures { λ r. ⌜ r ≡ cond (eqb kind 10) 1 0 ⌝ }
+{
+    if kind == TRY { 1 } else { 0 }
+}
+
 // Walks over the statement at node `at` of the first n, with all below it, inside `tries` try statements; `left` is the depth
 // that is left, that node's included. Gives the number of the refusal, or 0 with the place after the statement in `at` and
 // its labels added to `used`.
@@ -196,15 +199,9 @@ fn walk(
             *used = sets::with(*used, label.0);
             return why;
         }
-        GOTOPAUSE => return fault,
-        EMIT => return fault,
+        GOTOPAUSE..=EMIT => return fault,
         EXIT => return first_of(fault, level_fault(Level(operand), tries)),
-        SIGNAL => tries,
-        PRESENT => tries,
-        SEQUENCE => tries,
-        PARALLEL => tries,
-        LOOP => tries,
-        TRY => tries + 1,
+        SIGNAL..=TRY => tries + tried(kind),
         11..=15 => return 6,
         _ => return 6,
     };

@@ -1,10 +1,13 @@
 -- `table::reading::walk` meets its contract: at each return it is what the walk comes to there (proofs/Walking). The measure
 -- is the depth that is left.
 use mathlib.Core.Path.{_≡_, sym, ap, _∙_}
-use mathlib.Core.Logic.{inl, inr, ⊎-elim}
+use mathlib.Core.Logic.{_⊎_, inl, inr}
+use mathlib.Core.Bool.{Bool, true, false, cond}
 use mathlib.Core.List.{List}
-use Prim.Native.Nat.{ℕ, _+_, _-_, _≤_, _<_}
+use Prim.Native.Nat.{ℕ, _+_, _-_, _≤_, _<_, zero-le}
 use native.Mathlib.Omega.{arith}
+use native.Mathlib.Decide.{ℕ-discrete}
+use lib.Dec.{eqb}
 use lib.ListN.{length, getD, take}
 use lib.Seq.{getD-take, length-take-le}
 use borrow.Author.Needs.{needs}
@@ -12,8 +15,8 @@ use Rattle.table.specs.Kinds.{kindOf, rowOf}
 use Rattle.table.specs.Reading.{faultOf}
 use Rattle.table.specs.inner.Loading.{fieldFault, Rows}
 use Rattle.table.proofs.Faults.{Fields, fault-none, fault-kind, fault-other, fault-exit, fault-pause}
-use Rattle.table.proofs.Places.{none-of-kinds}
-use Rattle.table.proofs.Walking.{At, Parent, signal, present, sequence, parallel, loop, try, parent-inside, walk-end, walk-fault, walk-pause, walk-leaf, walk-first, walk-only, walk-second}
+use Rattle.table.proofs.Places.{past}
+use Rattle.table.proofs.Walking.{At, Parent, walk-end, walk-fault, walk-pause, walk-leaf, walk-first, walk-only, walk-second}
 use borrow.Fn.Kinds.{In}
 use borrow.Fn.PlainCycle.{Measures, is, falls, and}
 use Rattle.table.proofs.reading.walk.Reads as walk
@@ -27,6 +30,7 @@ use Rattle.table.proofs.reading.field_fault.Reads as field-fault-reads
 use Rattle.table.proofs.reading.first_of.Reads as first-of-reads
 use Rattle.table.proofs.reading.label_fault.Reads as label-fault-reads
 use Rattle.table.proofs.reading.level_fault.Reads as level-fault-reads
+use Rattle.table.proofs.reading.tried.Reads as tried-reads
 use Rattle.table.proofs.reading.+walk.{statement}
 use Rattle.table.proofs.reading.+walk.Tie.{close}
 
@@ -57,6 +61,8 @@ claims t = (
   with-reads.Learnt,
   level-fault-reads.Asked,
   level-fault-reads.Learnt,
+  tried-reads.Asked,
+  tried-reads.Learnt,
   walk-below t,
   walk.Post,
 )
@@ -71,9 +77,21 @@ plain : (k m : ℕ) → k ≡ m → m ≤ 10 → (m ≡ 1 → ⊥) → (m ≡ 4 
 plain k m e a b c = record { known = omega arith; no-pause = λ z. b (sym e ∙ z); no-exit = λ z. c (sym e ∙ z) }
 
 plain-parent : {tries k inside : ℕ} → Parent tries k inside → Plain k
-plain-parent p =
-    let (a, b, c) = parent-inside p in
-    record { known = b; no-pause = λ z. omega arith; no-exit = λ z. omega arith }
+plain-parent p = record { known = p .to; no-pause = λ z. omega arith; no-exit = λ z. omega arith }
+
+tried-small : (k n : ℕ) → n ≡ cond (eqb k 10) 1 0 → n ≤ 1
+tried-small k n e = go (eqb k 10) e
+  where
+    go : (b : Bool) → n ≡ cond b 1 0 → n ≤ 1
+    go true e = omega arith
+    go false e = omega arith
+
+two-or-three : (k : ℕ) → 2 ≤ k → k < 4 → ((k ≡ 0) ⊎ (k ≡ 2) ⊎ (k ≡ 3) ⊎ (k ≡ 4)) × Plain k
+two-or-three k a b = go (ℕ-discrete k 2)
+  where
+    go : Dec (k ≡ 2) → ((k ≡ 0) ⊎ (k ≡ 2) ⊎ (k ≡ 3) ⊎ (k ≡ 4)) × Plain k
+    go (yes e) = (inr (inl e), plain k 2 e (omega arith) (λ z. omega arith) (λ z. omega arith))
+    go (no n) = let e : k ≡ 3 = omega arith in (inr (inr (inl e)), plain k 3 e (omega arith) (λ z. omega arith) (λ z. omega arith))
 
 -- the first n nodes
 module _ (t : ℕ) (c : walk-lts.Start (claims t) (walk-at t) walk.Post) where
@@ -147,48 +165,52 @@ module _ (t : ℕ) (c : walk-lts.After-field-fault (claims t) (walk-at t) walk.P
       falls-below = omega (arith, room, start .pre .0)
 
 -- after the decision over the kinds: a node with children
-module _ (t : ℕ) (c : walk-lts.At-match-came (claims t) (walk-at t) walk.Post) where
+module _ (t : ℕ) (c : walk-lts.After-tried (claims t) (walk-at t) walk.Post) where
   abbrev tested : walk-lts.After-field-fault (claims t) (walk-at t) walk.Post
-  tested = c .before
+  tested = c .before .before .before .before
 
-  parent : Parent (start t tested .args .tries) (kind t tested) (c .match .inside)
+  abbrev within : ℕ
+  within = start t tested .args .tries + c .tried .result
+
+  parent : Parent (start t tested .args .tries) (kind t tested) within
   parent =
-      ⊎-elim (λ w. signal (w .0 .keys6) (w .1))
-      (⊎-elim (λ w. present (w .0 .keys7) (w .1))
-      (⊎-elim (λ w. sequence (w .0 .keys8) (w .1))
-      (⊎-elim (λ w. parallel (w .0 .keys9) (w .1))
-      (⊎-elim (λ w. loop (w .0 .keys10) (w .1))
-      (λ w. try (w .0 .keys11) (w .1))))))
-      (c .match .came)
+      let e = c .before .before in
+      record {
+        from = past 4 (kind t tested) (e .if2 .left) (e .before .match .rest .1);
+        to = omega (arith, c .before .if3 .taken);
+        around = ap (λ (n : ℕ). start t tested .args .tries + n) (c .tried .ensures);
+      }
 
   many : tested .before .row-in .result .children ≡ rowOf (kindOf (kind t tested)) .children
   many = ap (λ r. r .children) (tested .before .row-in .ensures)
 
 -- a kind that is none
-module _ (t : ℕ) (c : walk-lts.At-match-rest (claims t) (walk-at t) walk.Post) where
-  unknown : 6 ≡ faulty t (c .before)
+module _ (t : ℕ) (c : walk-lts.Else3 (claims t) (walk-at t) walk.Post) where
+  unknown : 6 ≡ faulty t (c .before .before .before)
   unknown =
-      let a = start t (c .before) .args in
-      let k = kind t (c .before) in
-      fault-kind (a .left) (a .tries) (a .used .now) (here t (c .before)) k (named t (c .before) .kind-of .ensures) (none-of-kinds k (c .match .rest))
+      let k = c .before .before .before in
+      let a = start t k .args in
+      fault-kind (a .left) (a .tries) (a .used .now) (here t k) (kind t k) (named t k .kind-of .ensures) (c .if3 .left)
 
 -- without a fault
-module _ (t : ℕ) (c : walk-lts.Else3 (claims t) (walk-at t) walk.Post) where
-  whole : 0 ≡ faulty t (c .before .before)
-  whole = fine t (c .before .before) (plain-parent (parent t (c .before))) (c .if3 .left)
+module _ (t : ℕ) (c : walk-lts.Else5 (claims t) (walk-at t) walk.Post) where
+  abbrev found : walk-lts.After-field-fault (claims t) (walk-at t) walk.Post
+  found = tested t (c .before)
 
-  deep : 1 ≤ start t (c .before .before) .args .left
-  deep = room t (c .before .before) (plain-parent (parent t (c .before))) (c .if3 .left)
+  whole : 0 ≡ faulty t found
+  whole = fine t found (plain-parent (parent t (c .before))) (c .if5 .left)
+
+  deep : 1 ≤ start t found .args .left
+  deep = room t found (plain-parent (parent t (c .before))) (c .if5 .left)
 
   -- what the walk over a child asks
-  below : (start t (c .before .before) .args .left - 1 < t)
-      × ((start t (c .before .before) .args .n ≤ 1024) × (length (start t (c .before .before) .args .nodes .now) ≡ 1024)
-      × (c .before .match .inside + (start t (c .before .before) .args .left - 1) < 255) × Rows (start t (c .before .before) .args .rows .now))
+  below : (start t found .args .left - 1 < t)
+      × ((start t found .args .n ≤ 1024) × (length (start t found .args .nodes .now) ≡ 1024)
+      × (within t (c .before) + (start t found .args .left - 1) < 255) × Rows (start t found .args .rows .now))
   below =
-      let k = c .before .before in
-      let p = start t k .pre .1 in
-      let q = parent t (c .before) in
-      (falls-below t k (plain-parent q) (c .if3 .left), (p .0, p .1, omega (arith, parent-inside q .2, deep, p .2), p .3))
+      let p = start t found .pre .1 in
+      let one = tried-small (kind t found) (c .before .tried .result) (c .before .tried .ensures) in
+      (falls-below t found (plain-parent (parent t (c .before))) (c .if5 .left), (p .0, p .1, omega (arith, one, deep, p .2), p .3))
 
 module _ (t : ℕ) where
   returns : walk-lts.Need-returns (claims t) (walk-at t) walk.Post
@@ -244,47 +266,44 @@ module _ (t : ℕ) where
       (fault-pause (start t k .args .tries) (start t k .args .used .now) (fields t k (omega arith)) e (l .label-fault .result) (c .before .first-of .result) (l .label-fault .ensures)
       (c .before .first-of .ensures))
 
-  returns-4 : walk-lts.Need-returns-4 (claims t) (walk-at t) walk.Post
-  returns-4 c =
-      let k = c .before in
-      let e = c .match .keys3 in
-      walk-leaf (at t k) (inr (inl e)) (fault t k) (faults t k (plain (kind t k) 2 e (omega arith) (λ z. omega arith) (λ z. omega arith)))
-
-  returns-5 : walk-lts.Need-returns-5 (claims t) (walk-at t) walk.Post
-  returns-5 c =
-      let k = c .before in
-      let e = c .match .keys4 in
-      walk-leaf (at t k) (inr (inr (inl e))) (fault t k) (faults t k (plain (kind t k) 3 e (omega arith) (λ z. omega arith) (λ z. omega arith)))
-
   level-fault-requires : walk-lts.Need-level-fault-requires (claims t) (walk-at t) walk.Post
   level-fault-requires c κs = search needs
 
   first-of-requires-2 : walk-lts.Need-first-of-requires-2 (claims t) (walk-at t) walk.Post
   first-of-requires-2 c κs = search needs
 
-  returns-6 : walk-lts.Need-returns-6 (claims t) (walk-at t) walk.Post
-  returns-6 c =
+  returns-4 : walk-lts.Need-returns-4 (claims t) (walk-at t) walk.Post
+  returns-4 c =
       let l = c .before in
       let m = l .before in
       let k = m .before in
-      let e = m .match .keys5 in
+      let e = m .match .keys3 in
       walk-leaf (at t k) (inr (inr (inr e))) (c .first-of2 .result)
       (fault-exit (start t k .args .tries) (start t k .args .used .now) (fields t k (omega arith)) e (l .level-fault .result) (c .first-of2 .result) (l .level-fault .ensures) (c .first-of2 .ensures))
 
+  returns-5 : walk-lts.Need-returns-5 (claims t) (walk-at t) walk.Post
+  returns-5 c =
+      let k = c .before .before in
+      let r = c .before .match .rest .0 in
+      let (s, p) = two-or-three (kind t k) (past 1 (kind t k) (past 0 (kind t k) zero-le (r .0 .1)) (r .1)) (c .if2 .taken) in
+      walk-leaf (at t k) s (fault t k) (faults t k p)
+
+  tried-requires : walk-lts.Need-tried-requires (claims t) (walk-at t) walk.Post
+  tried-requires c κs = search needs
+
   add-inside : walk-lts.Need-add-inside (claims t) (walk-at t) walk.Post
-  add-inside c = omega (arith, start t (c .before) .pre .1 .2)
+  add-inside c = omega (arith, tried-small (kind t (tested t c)) (c .tried .result) (c .tried .ensures), start t (tested t c) .pre .1 .2)
+
+  returns-6 : walk-lts.Need-returns-6 (claims t) (walk-at t) walk.Post
+  returns-6 c = walk-fault (at t (c .before .before .before .before)) 6 _ _ (unknown t (c .before)) (λ z. omega arith)
 
   returns-7 : walk-lts.Need-returns-7 (claims t) (walk-at t) walk.Post
-  returns-7 c = walk-fault (at t (c .before .before)) 6 _ _ (unknown t (c .before)) (λ z. omega arith)
+  returns-7 c = walk-fault (at t (c .before .before .before .before)) 6 _ _ (unknown t (c .before)) (λ z. omega arith)
 
   returns-8 : walk-lts.Need-returns-8 (claims t) (walk-at t) walk.Post
-  returns-8 c = walk-fault (at t (c .before .before)) 6 _ _ (unknown t (c .before)) (λ z. omega arith)
-
-  returns-9 : walk-lts.Need-returns-9 (claims t) (walk-at t) walk.Post
-  returns-9 c =
-      let m = c .before in
-      let k = m .before in
-      walk-fault (at t k) (fault t k) _ _ (faults t k (plain-parent (parent t m))) (c .if3 .taken)
+  returns-8 c =
+      let k = tested t (c .before) in
+      walk-fault (at t k) (fault t k) _ _ (faults t k (plain-parent (parent t (c .before)))) (c .if5 .taken)
 
   sub-walk : walk-lts.Need-sub-walk (claims t) (walk-at t) walk.Post
   sub-walk c = deep t (c .before .before)
@@ -292,13 +311,13 @@ module _ (t : ℕ) where
   walk-requires : walk-lts.Need-walk-requires (claims t) (walk-at t) walk.Post
   walk-requires c κs = below t (c .before .before .before .before)
 
-  returns-10 : walk-lts.Need-returns-10 (claims t) (walk-at t) walk.Post
-  returns-10 c =
+  returns-9 : walk-lts.Need-returns-9 (claims t) (walk-at t) walk.Post
+  returns-9 c =
       let g = c .before .before .before in
       let e = g .before .before in
       let m = e .before in
-      walk-only (at t (m .before)) (parent t m) (whole t e) (c .walk .result) (c .walk .last .1 .1 .1 .1 .0) (c .walk .last .1 .1 .1 .1 .1 .0)
-      (sym (many t m) ∙ g .if4 .taken) (c .walk .ensures)
+      walk-only (at t (tested t m)) (parent t m) (whole t e) (c .walk .result) (c .walk .last .1 .1 .1 .1 .0) (c .walk .last .1 .1 .1 .1 .1 .0)
+      (sym (many t m) ∙ g .if6 .taken) (c .walk .ensures)
 
   sub-walk-2 : walk-lts.Need-sub-walk-2 (claims t) (walk-at t) walk.Post
   sub-walk-2 c = deep t (c .before .before)
@@ -306,13 +325,13 @@ module _ (t : ℕ) where
   walk-requires-2 : walk-lts.Need-walk-requires-2 (claims t) (walk-at t) walk.Post
   walk-requires-2 c κs = below t (c .before .before .before .before)
 
-  returns-11 : walk-lts.Need-returns-11 (claims t) (walk-at t) walk.Post
-  returns-11 c =
+  returns-10 : walk-lts.Need-returns-10 (claims t) (walk-at t) walk.Post
+  returns-10 c =
       let w = c .before in
       let g = w .before .before .before in
       let e = g .before .before in
       let m = e .before in
-      walk-first (at t (m .before)) (parent t m) (whole t e) (w .walk2 .result) (w .walk2 .last .1 .1 .1 .1 .0) (w .walk2 .last .1 .1 .1 .1 .1 .0) _ _ (c .if5 .taken) (w .walk2 .ensures)
+      walk-first (at t (tested t m)) (parent t m) (whole t e) (w .walk2 .result) (w .walk2 .last .1 .1 .1 .1 .0) (w .walk2 .last .1 .1 .1 .1 .1 .0) _ _ (c .if7 .taken) (w .walk2 .ensures)
 
   sub-walk-3 : walk-lts.Need-sub-walk-3 (claims t) (walk-at t) walk.Post
   sub-walk-3 c =
@@ -325,15 +344,15 @@ module _ (t : ℕ) where
       let g = h .before .before .before .before in
       below t (g .before .before)
 
-  returns-12 : walk-lts.Need-returns-12 (claims t) (walk-at t) walk.Post
-  returns-12 c =
+  returns-11 : walk-lts.Need-returns-11 (claims t) (walk-at t) walk.Post
+  returns-11 c =
       let h = c .before .before .before in
       let w = h .before in
       let g = w .before .before .before in
       let e = g .before .before in
       let m = e .before in
-      walk-second (at t (m .before)) (parent t m) (whole t e) (c .walk3 .result) (c .walk3 .last .1 .1 .1 .1 .0) (c .walk3 .last .1 .1 .1 .1 .1 .0)
-      (w .walk2 .result) (w .walk2 .last .1 .1 .1 .1 .0) (w .walk2 .last .1 .1 .1 .1 .1 .0) (λ z. g .if4 .left (many t m ∙ z)) (h .if5 .left) (w .walk2 .ensures) (c .walk3 .ensures)
+      walk-second (at t (tested t m)) (parent t m) (whole t e) (c .walk3 .result) (c .walk3 .last .1 .1 .1 .1 .0) (c .walk3 .last .1 .1 .1 .1 .1 .0)
+      (w .walk2 .result) (w .walk2 .last .1 .1 .1 .1 .0) (w .walk2 .last .1 .1 .1 .1 .1 .0) (λ z. g .if6 .left (many t m ∙ z)) (h .if7 .left) (w .walk2 .ensures) (c .walk3 .ensures)
 
 pub +walk-spec : {M : Type 1} → statement M
 +walk-spec =
@@ -356,21 +375,21 @@ pub +walk-spec : {M : Type 1} → statement M
     (first-of-requires t)
     (with-requires t)
     (returns-3 t)
-    (returns-4 t)
-    (returns-5 t)
     (level-fault-requires t)
     (first-of-requires-2 t)
-    (returns-6 t)
+    (returns-4 t)
+    (returns-5 t)
+    (tried-requires t)
     (add-inside t)
+    (returns-6 t)
     (returns-7 t)
     (returns-8 t)
-    (returns-9 t)
     (sub-walk t)
     (walk-requires t)
-    (returns-10 t)
+    (returns-9 t)
     (sub-walk-2 t)
     (walk-requires-2 t)
-    (returns-11 t)
+    (returns-10 t)
     (sub-walk-3 t)
     (walk-requires-3 t)
-    (returns-12 t)
+    (returns-11 t)
