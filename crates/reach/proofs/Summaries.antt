@@ -16,31 +16,28 @@ use Rattle.sets.proofs.Counts.{count, count-without}
 use Rattle.esterel.specs.Codes.{Codes, join, minusZero, throughTry}
 use Rattle.reach.specs.declared.codes.CodeSet.{CodeSet}
 use Rattle.reach.specs.inner.CodeSets.{codesOf}
-use Rattle.reach.specs.inner.Summaries.{resumedFrom, Changed, Lowered, Gathered, outline}
+use Rattle.reach.specs.inner.Summaries.{resumedFrom, stored, Changed, LoweredEach, LabelsFrom, Follows, outline}
 use Rattle.reach.proofs.CodeSets.{words, and-true, and-false}
 
 -- ---- Storing
-abbrev pub stored : List ℕ → ℕ → CodeSet → List ℕ
-stored kept l a = set (set kept l (a .labels)) (64 + l) (a .exits)
-
 module _ (kept : List ℕ) (l : ℕ) (a : CodeSet) where
   pub stored-size : length (stored kept l a) ≡ length kept
-  stored-size = length-set (set kept l (a .labels)) (64 + l) (a .exits) ∙ length-set kept l (a .labels)
+  stored-size = length-set (set kept l (a .labels)) (64 + l) (a .codes) ∙ length-set kept l (a .labels)
 
   pub stored-same : length kept ≡ 128 → l < 64 → resumedFrom (stored kept l a) l ≡ codesOf a
   unfolding resumedFrom
   stored-same room b =
       let n = length-set kept l (a .labels) in
       ap₂ (λ (x y : ℕ). codesOf (words x y))
-      (getD-set-other (set kept l (a .labels)) (64 + l) l (a .exits) 0 (λ e. omega arith) ∙ getD-set-same kept l (a .labels) 0 (omega arith))
-      (getD-set-same (set kept l (a .labels)) (64 + l) (a .exits) 0 (omega arith))
+      (getD-set-other (set kept l (a .labels)) (64 + l) l (a .codes) 0 (λ e. omega arith) ∙ getD-set-same kept l (a .labels) 0 (omega arith))
+      (getD-set-same (set kept l (a .labels)) (64 + l) (a .codes) 0 (omega arith))
 
   pub stored-other : (x : ℕ) → l < 64 → x < 64 → x ≢ l → resumedFrom (stored kept l a) x ≡ resumedFrom kept x
   unfolding resumedFrom
   stored-other x b h n =
       ap₂ (λ (u v : ℕ). codesOf (words u v))
-      (getD-set-other (set kept l (a .labels)) (64 + l) x (a .exits) 0 (λ e. omega arith) ∙ getD-set-other kept l x (a .labels) 0 n)
-      (getD-set-other (set kept l (a .labels)) (64 + l) (64 + x) (a .exits) 0 (λ e. n (omega arith)) ∙ getD-set-other kept l (64 + x) (a .labels) 0 (λ e. omega arith))
+      (getD-set-other (set kept l (a .labels)) (64 + l) x (a .codes) 0 (λ e. omega arith) ∙ getD-set-other kept l x (a .labels) 0 n)
+      (getD-set-other (set kept l (a .labels)) (64 + l) (64 + x) (a .codes) 0 (λ e. n (omega arith)) ∙ getD-set-other kept l (64 + x) (a .labels) 0 (λ e. omega arith))
 
 -- ---- The labels of a set, one after the other
 -- those of `set` that are not in `rest` have been changed
@@ -133,7 +130,7 @@ lower-begins set kept = record {
   ends = λ l b. has-empty l ∙ sym (ap (λ (z : Bool). z && throughTry (resumedFrom kept l) .ends) (none-left set l));
 }
 
-pub lower-ends : (set rest : ℕ) (kept kept′ : List ℕ) (ending : ℕ) → Lowering set rest kept kept′ ending → rest ≡ 0 → Lowered set kept kept′ ending
+pub lower-ends : (set rest : ℕ) (kept kept′ : List ℕ) (ending : ℕ) → Lowering set rest kept kept′ ending → rest ≡ 0 → LoweredEach set kept kept′ ending
 lower-ends set rest kept kept′ ending w e = record {
   changed = walk-ends set rest throughTry kept kept′ (w .walking) e;
   ends = λ l b. w .ends l b ∙ ap (λ (z : Bool). z && throughTry (resumedFrom kept l) .ends) (all-done set rest l e);
@@ -174,7 +171,7 @@ pub record Gathering (set rest : ℕ) (kept : List ℕ) (labels : ℕ) : Type 0 
 pub gather-begins : (set : ℕ) (kept : List ℕ) → Gathering set set kept 0
 gather-begins set kept = record { within = λ x h. h; sound = λ x h. clash h (has-empty x); complete = λ l x b h k. inl h }
 
-pub gather-ends : (set rest : ℕ) (kept : List ℕ) (labels : ℕ) → Gathering set rest kept labels → rest ≡ 0 → Gathered set kept labels
+pub gather-ends : (set rest : ℕ) (kept : List ℕ) (labels : ℕ) → Gathering set rest kept labels → rest ≡ 0 → LabelsFrom set kept labels
 gather-ends set rest kept labels g e = record {
   sound = g .sound;
   complete = λ l x b h k. ⊎-elim (λ u. clash (ap (λ (m : ℕ). has m l) (sym e) ∙ u) (has-empty l)) (λ v. v) (g .complete l x b h k);
@@ -220,6 +217,5 @@ changed-own kept room l b a {K} e kept′ k = subst (Changed (only l) (λ D. K) 
     each x c (yes q) = subst Goal (sym q) (stored-same kept l a room b ∙ e ∙ sym (ap (λ (z : Bool). cond z K (resumedFrom kept l)) (has-only l)))
     each x c (no n) = stored-other kept l a x b c n ∙ sym (ap (λ (z : Bool). cond z K (resumedFrom kept x)) (has-only-other l x (λ e. n (sym e))))
 
-pub follow-same : {set : ℕ} {K K′ : Codes} {kept kept′ : List ℕ} → Changed set (λ D. join (minusZero D) K) kept kept′ → K ≡ K′
-    → Changed set (λ D. join (minusZero D) K′) kept kept′
-follow-same {set} {K} {K′} {kept} {kept′} h e = subst (λ (S : Codes). Changed set (λ D. join (minusZero D) S) kept kept′) e h
+pub follow-same : {set : ℕ} {K K′ : Codes} {kept kept′ : List ℕ} → Follows set K kept kept′ → K ≡ K′ → Follows set K′ kept kept′
+follow-same {set} {K} {K′} {kept} {kept′} h e = subst (λ (S : Codes). Follows set S kept kept′) e h
