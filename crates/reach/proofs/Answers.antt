@@ -27,7 +27,7 @@ use Rattle.reach.specs.inner.Rounds.{Reaches}
 use Rattle.reach.specs.Answers.{reachedOutcome, reachIn, reachOf}
 
 -- ---- The analysis rests
-rest-same : {a b : Settled} → Rest a ≡ Rest b → a ≡ b
+pub rest-same : {a b : Settled} → Rest a ≡ Rest b → a ≡ b
 rest-same e = cc
 
 pub never-refused : (xs : List ℕ) (r : Analysed) → Reaches xs r → r ≡ analysed.Refused → ⊥

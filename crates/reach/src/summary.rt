@@ -13,7 +13,7 @@ ghost use Rattle.sets.specs.Set.{only};
 ghost use Rattle.esterel.specs.Codes.{codeOf, justEnded, justAt, justCode, join, minusZero, throughTry};
 ghost use Rattle.table.specs.inner.Places.{statementAt};
 ghost use Rattle.reach.specs.inner.CodeSets.{codesOf};
-ghost use Rattle.reach.specs.inner.Summaries.{resumedFrom, stored, Changed, LoweredEach, LabelsFrom, Follows};
+ghost use Rattle.reach.specs.inner.Summaries.{resumedFrom, storedFor, Changed, LoweredEach, LabelsFrom, Follows};
 ghost use Rattle.reach.specs.inner.Summaries.{outline, outlineOf, presentOutline, sequenceOutline, parallelOutline, Summable, Summarised};
 ghost use Rattle.reach.specs.inner.Notes.{NotedChild, LeavesNotes};
 
@@ -48,7 +48,7 @@ fn read(kept: &[u64; KEPT], label: Label) -> CodeSet
 
 fn store(kept: &mut [u64; KEPT], label: Label, a: CodeSet)
     requires { ⌜ label .0 < 64 ⌝ }
-    ensures { λ _. ⌜ now (kept .exit) ≡ stored (now (kept .entry)) (label .0) a ⌝ }
+    ensures { λ _. ⌜ now (kept .exit) ≡ storedFor (now (kept .entry)) (label .0) a ⌝ }
 {
     let at = label.0 as usize;
     kept[at] = a.labels;
