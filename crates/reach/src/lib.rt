@@ -104,6 +104,7 @@ fn reach_with(table: &[u8], nodes: &mut [u16; table::MOST_NODES]) -> Reached
     };
     let analysed = rounds_of(nodes);
     let Analysed::Rest(found) = analysed else {
+        // "6 kind above 10"
         return Reached::Refused(6);
     };
     let start = found.start;

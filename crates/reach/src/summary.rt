@@ -17,9 +17,10 @@ ghost use Rattle.reach.specs.inner.Summaries.{resumedFrom, storedFor, Ch
 ghost use Rattle.reach.specs.inner.Summaries.{outline, outlineOf, presentOutline, sequenceOutline, parallelOutline, Summable, Summarised};
 ghost use Rattle.reach.specs.inner.Notes.{NotedChild, LeavesNotes};
 
-// The number of labels, 0 to 63, and of the words kept for them: the labels of each, then the other codes of each.
+// How many labels there are, with 0, which is none.
 const LABELS: usize = 64;
 
+// The words kept for the labels: first the labels of each, then the other codes of each.
 pub const KEPT: usize = 128;
 
 // The place after a statement that is refused: beyond every place, so that what stands there is refused as well.
