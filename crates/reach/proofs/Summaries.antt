@@ -13,7 +13,7 @@ use Rattle.sets.specs.Set.{has, only, _union_, _minus_, _without_, Within}
 use Rattle.sets.proofs.Booleans.{or-left, or-right, or-cases, or-false, and-cases, clash}
 use Rattle.sets.proofs.Members.{has-empty, has-union, has-minus, has-only, has-only-other, has-without-same, has-without-other}
 use Rattle.sets.proofs.Counts.{count, count-without}
-use Rattle.esterel.specs.Codes.{Codes, join, minusZero, throughTry}
+use Rattle.esterel.specs.Codes.{Codes, throughTry}
 use Rattle.reach.specs.declared.codes.CodeSet.{CodeSet}
 use Rattle.reach.specs.inner.CodeSets.{codesOf}
 use Rattle.reach.specs.inner.Summaries.{resumedFrom, storedFor, Changed, LoweredEach, LabelsFrom, Follows, outline}
@@ -53,11 +53,7 @@ none-left set l = has-minus set set l ∙ go (has set l)
     go false = refl
 
 all-done : (set rest l : ℕ) → rest ≡ 0 → has (set minus rest) l ≡ has set l
-all-done set rest l e = has-minus set rest l ∙ ap (λ (z : Bool). has set l && not z) (ap (λ (m : ℕ). has m l) e ∙ has-empty l) ∙ go (has set l)
-  where
-    go : (z : Bool) → (z && true) ≡ z
-    go true = refl
-    go false = refl
+all-done set rest l e = has-minus set rest l ∙ ap (λ (z : Bool). has set l && not z) (ap (λ (m : ℕ). has m l) e ∙ has-empty l) ∙ and-true (has set l)
 
 stays-in : (rest l rest′ : ℕ) → rest′ ≡ rest without l → (x : ℕ) → has rest′ x ≡ true → has rest x ≡ true
 stays-in rest l rest′ r x k = and-cases (has rest x) (not (has (only l) x)) (sym (has-minus rest (only l) x) ∙ ap (λ (m : ℕ). has m x) (sym r) ∙ k) .0
