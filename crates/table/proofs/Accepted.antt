@@ -173,7 +173,7 @@ pub record Holds (t : List ℕ) (n : ℕ) (p : Statement) : Type 0 where
 never-holds : (w n : ℕ) (p : Statement) → Table.refused w ≡ holds n p → ⊥
 never-holds w n p h = let z : _≡_ {A = ℕ} 0 1 = cc in omega arith
 
--- "What check accepts is a valid statement"
+-- What check accepts is a valid statement
 pub accepted : (t : List ℕ) (n : ℕ) (p : Statement) → tableOf t ≡ holds n p → Holds t n p
 unfolding tableOf tableAfter wholeOf
 accepted t n p h = go (headerOf t) refl h
