@@ -7,6 +7,7 @@ pub mod Levels
 pub mod Unnamed
 pub mod Trimming
 pub mod Validity
+pub mod Bounds
 pub mod Runs
 pub mod Published
 pub mod Counterexamples
