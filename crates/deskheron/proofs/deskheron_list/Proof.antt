@@ -1,8 +1,7 @@
 -- `deskheron::deskheron_list` meets its contract, by cases of the answer of list.
-use mathlib.Core.Path.{refl, sym, ap, _∙_}
-use Rattle.list.specs.declared.Answer.{Answer}
-use Rattle.list.specs.Answers.{refusalOf}
-use Rattle.deskheron.specs.Answers.{listedAfter}
+use mathlib.Core.Path.{sym, ap, _∙_}
+use Rattle.table.specs.Outcomes.{Outcome, numberOf, cellAfter}
+use Rattle.list.specs.Answers.{answerOutcome}
 use borrow.Author.Needs.{needs}
 use Rattle.deskheron.proofs.deskheron_list.Statement.{statement}
 use Rattle.deskheron.proofs.deskheron_list.Tie as tie
@@ -32,14 +31,19 @@ same-length-3 : tie.Need-same-length-3
 same-length-3 c = search needs
 
 returns : tie.Need-returns
-unfolding refusalOf listedAfter
+unfolding cellAfter answerOutcome
 returns c =
-    let given = c .before .before .before .before .before .before .before .before .before .list-bytes .ensures in
-    let w = sym (c .before .enum-told .given .1) ∙ given .answer in
+    let k = c .before .before .before .before .before .before in
+    let d = k .before .before .before in
+    let given = d .list-bytes .ensures in
+    let a = d .before .before .before .before in
+    let e = ap answerOutcome (sym (c .before .enum-told .given .1)) ∙ given .answer in
     record {
-      number = c .refusal .ensures ∙ ap refusalOf (given .answer);
-      buffers = record { answer = refl; signals = given .signals; codes = given .codes; labels = given .labels };
-      counted = ap (λ (z : Answer). listedAfter z (c .before .before .before .before .before .before .before .before .before .before .before .before .before .before .before .before .before .args .count .now)) w;
+      number = c .refusal .ensures ∙ ap numberOf (given .answer);
+      signals = given .signals;
+      codes = given .codes;
+      labels = given .labels;
+      counted = ap (λ (z : Outcome). cellAfter z 0 (a .before .before .before .before .args .count .now)) e;
     }
 
 same-length-4 : tie.Need-same-length-4
@@ -52,14 +56,19 @@ same-length-6 : tie.Need-same-length-6
 same-length-6 c = search needs
 
 returns-2 : tie.Need-returns-2
-unfolding refusalOf listedAfter
+unfolding numberOf cellAfter answerOutcome
 returns-2 c =
-    let given = c .before .before .before .before .before .before .before .before .before .list-bytes .ensures in
-    let w = sym (c .before .answer .given .1) ∙ given .answer in
+    let k = c .before .before .before .before .before .before in
+    let d = k .before .before .before in
+    let given = d .list-bytes .ensures in
+    let a = d .before .before .before .before in
+    let e = ap answerOutcome (sym (c .before .answer .given .1)) ∙ given .answer in
     record {
-      number = ap refusalOf w;
-      buffers = record { answer = refl; signals = given .signals; codes = given .codes; labels = given .labels };
-      counted = ap (λ (z : Answer). listedAfter z (c .before .before .before .before .before .before .before .before .before .before .before .before .before .before .before .before .before .args .count .now)) w;
+      number = ap numberOf e;
+      signals = given .signals;
+      codes = given .codes;
+      labels = given .labels;
+      counted = ap (λ (z : Outcome). cellAfter z 0 (a .before .before .before .before .args .count .now)) e;
     }
 
 pub deskheron-list-spec : {M : Type 1} → statement M
