@@ -9,13 +9,15 @@ use native.Mathlib.Omega.{arith}
 use lib.Dec.{ltb}
 use lib.ListN.{length, take, drop, getD, length-map, List·getD-map}
 use lib.Seq.{take-at}
+use borrow.Author.Tests.{ltb-false}
 use Rattle.sets.proofs.Booleans.{by-cond, or-neither}
-use Rattle.esterel.specs.Statement.{Statement, Valid, LevelsFromOne, size, depth}
+use Rattle.esterel.specs.Statement.{Statement, Valid, size, depth}
 use Rattle.esterel.specs.Trimming.{trimmed}
 use Rattle.esterel.specs.Reactions.{State, start, resumed, Reaction, Reacts}
 use Rattle.esterel.specs.Runs.{Step, Run, StateOf}
 use Rattle.esterel.specs.Listing.{Listed, reaction, listing, crowded, nesting}
-use Rattle.esterel.proofs.Order.{same-reaction, ltb-not}
+use Rattle.esterel.proofs.Premises.{LevelsFromOne}
+use Rattle.esterel.proofs.Order.{same-reaction}
 use Rattle.esterel.proofs.Listing.{list-is-listing}
 use Rattle.esterel.proofs.Validity.{valid-levels, valid-trimmed, size-trimmed}
 use Rattle.esterel.proofs.Bounds.{Narrow, reaction-narrow}
@@ -150,7 +152,7 @@ accepted-fits q room sizes =
     by-cond (λ a. a ≡ values sizes → (size q ≤ 1024) × (depth q ≤ deepest)) (ltb 1024 (size q) || ltb deepest (depth q)) (refusal 12)
     (cond (ltb room (length (write q))) (refusal 13) (values (size q ∷ length (write q) ∷ [])))
     (λ k e. not-refused 12 sizes e)
-    (λ k e. let n = or-neither (ltb 1024 (size q)) (ltb deepest (depth q)) k in (ltb-not 1024 (size q) (n .0), ltb-not deepest (depth q) (n .1)))
+    (λ k e. let n = or-neither (ltb 1024 (size q)) (ltb deepest (depth q)) k in (ltb-false 1024 (size q) (n .0), ltb-false deepest (depth q) (n .1)))
 
 -- ---- the demand
 module _ (t : List ℕ) (s : ℕ) (p : Statement) (h : tableOf t ≡ holds s p) where

@@ -1,3 +1,4 @@
+pub mod Premises
 pub mod Codes
 pub mod Soundness
 pub mod Exits

@@ -11,11 +11,12 @@ use native.Mathlib.Omega.{arith}
 use Rattle.sets.specs.Set.{has, only, _union_, _intersect_, _without_, Apart, Within}
 use Rattle.sets.proofs.Booleans.{or-left, or-right, or-neither, or-cases, and-both, not-true, clash, by-cond}
 use Rattle.sets.proofs.Members.{has-empty, has-union, has-intersect, has-only, has-only-equal, empty-union, union-empty, union-within}
-use Rattle.esterel.specs.Statement.{Statement, nothing, pause, gotopause, emit, exit, signal, present, sequence, parallel, loop, try, pauses, LevelsFromOne}
+use Rattle.esterel.specs.Statement.{Statement, nothing, pause, gotopause, emit, exit, signal, present, sequence, parallel, loop, try, pauses}
 use Rattle.esterel.specs.Trimming.{isNothing, joinParts, names, endsAt, raise, lower, canEnd, trimLoop, trimSignal, trimPresent, trimTry, trim}
 use Rattle.esterel.specs.Reactions.{State, start, resumed, Derives, reachedTogether}
 use Rattle.esterel.specs.Reactions as rule
-use Rattle.esterel.proofs.Soundness.{reachedTogether-other, reached-empty, MeetIn, Allowed, sound-ends}
+use Rattle.esterel.proofs.Premises.{LevelsFromOne}
+use Rattle.esterel.proofs.Soundness.{recast, reachedTogether-other, reached-empty, MeetIn, Allowed, sound-ends}
 use Rattle.esterel.proofs.Levels.{exit-not-resumed, pauses-shift, lowered, lowered⁻, behindExit, behind-resumed, behind-resumed⁻, behind-start, behind-start⁻}
 use Rattle.esterel.proofs.Unnamed.{undeclared, undeclared⁻}
 
@@ -163,9 +164,6 @@ then p q r x a b = (λ E O k L t. b .0 E O k L (a .0 E O k L t), λ E O k L t. a
 
 itself : (p : Statement) (x : State) → Same p p x
 itself p x = (λ E O k L t. t, λ E O k L t. t)
-
-recast : {p : Statement} {x : State} {E O k L O′ k′ L′ : ℕ} → O ≡ O′ → k ≡ k′ → L ≡ L′ → Derives p x E O′ k′ L′ → Derives p x E O k L
-recast a b c h = rw (a, b, c) h
 
 ended-empty : {p : Statement} {x : State} {E O k L : ℕ} → k ≡ 0 → Derives p x E O k L → L ≡ 0
 ended-empty e r = reached-empty r (λ f. omega arith)
