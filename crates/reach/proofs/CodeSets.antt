@@ -16,10 +16,10 @@ use Rattle.sets.proofs.Members.{has-union, bit}
 use Rattle.esterel.specs.Codes.{Codes, none, justEnded, justAt, justCode, join, minusZero, throughTry, hasLow, notBelow, noLowerThan}
 use Rattle.esterel.proofs.Codes.{join-none}
 use Rattle.reach.specs.declared.codes.CodeSet.{CodeSet}
-use Rattle.reach.specs.inner.CodeSets.{codesOf, flagOf, followedBy}
+use Rattle.reach.specs.inner.CodeSets.{placeOf, codesOf, flagOf, followedBy}
 
 abbrev pub words : ℕ → ℕ → CodeSet
-words l e = record { labels = l; exits = e }
+words l k = record { labels = l; codes = k }
 
 abbrev codes : Bool → ℕ → ℕ → Codes
 codes z l h = record { ends = z; pausing = l; higher = h }
@@ -29,9 +29,9 @@ parts : {z z′ : Bool} {l l′ h h′ : ℕ} → z ≡ z′ → l ≡ l′ → 
 parts e f g = rw (e, f, g)
 
 -- ---- one code
-pub view-ended : codesOf (words 0 1) ≡ justEnded
+pub view-ended : (place : ℕ) → place ≡ placeOf 0 → codesOf (words 0 (1 * 2 ^ place % 2 ^ 64)) ≡ justEnded
 unfolding codesOf justEnded has
-view-ended = refl
+view-ended place e = rw e
 
 one-bit : (w x : ℕ) → x < w → 1 * 2 ^ x % 2 ^ w ≡ only x
 unfolding only
@@ -41,9 +41,9 @@ pub view-at : (l : ℕ) → l < 64 → codesOf (words (1 * 2 ^ l % 2 ^ 64) 0) �
 unfolding codesOf justAt has
 view-at l h = parts refl (one-bit 64 l h) refl
 
-pub view-code : (k : ℕ) → 2 ≤ k → k ≤ 64 → codesOf (words 0 (1 * 2 ^ (k - 1) % 2 ^ 64)) ≡ justCode k
+at-place : (k : ℕ) → 2 ≤ k → k ≤ 64 → codesOf (words 0 (1 * 2 ^ placeOf k % 2 ^ 64)) ≡ justCode k
 unfolding codesOf justCode has only
-view-code k h l =
+at-place k h l =
     let e : k ≡ suc (suc (k - 2)) = omega arith in
     let f : k - 1 ≡ suc (k - 2) = omega arith in
     let g : 1 * 2 ^ (k - 1) % 2 ^ 64 ≡ 2 ^ (k - 2) * 2 = one-bit 64 (k - 1) (omega arith) ∙ ap (λ (n : ℕ). 2 ^ n) f ∙ pow-suc 2 (k - 2) in
@@ -51,22 +51,22 @@ view-code k h l =
     let up : 1 * 2 ^ (k - 1) % 2 ^ 64 / 2 * 4 ≡ 2 ^ k = rw g (let q : 2 ^ k ≡ 2 ^ (k - 2) * 2 * 2 = ap (λ (n : ℕ). 2 ^ n) e ∙ pow-suc 2 (suc (k - 2)) ∙ ap (λ (n : ℕ). n * 2) (pow-suc 2 (k - 2)) in omega arith) in
     parts (ap (λ (n : ℕ). eqb n 1) even) refl up
 
--- the lowest bit: as a test, as a flag, and as the set of 0 or nothing
+pub view-code : (k place : ℕ) → place ≡ placeOf k → 2 ≤ k → k ≤ 64 → codesOf (words 0 (1 * 2 ^ place % 2 ^ 64)) ≡ justCode k
+view-code k place p h l = ap (λ (n : ℕ). codesOf (words 0 (1 * 2 ^ n % 2 ^ 64))) p ∙ at-place k h l
+
+-- the lowest bit as a test
 pub has-low : (m : ℕ) → eqb (bitAnd m 1) 1 ≡ has m 0
 unfolding has
 has-low m = ap (λ (n : ℕ). eqb n 1) (and-mask m 1)
 
-low-bit : (m : ℕ) → bitAnd m 1 ≡ flagOf (eqb (m % 2) 1)
-unfolding flagOf
-low-bit m = and-mask m 1 ∙ go (bit m)
+-- and as a number
+pub flag-low : (m : ℕ) → flagOf (has m 0) ≡ m % 2
+unfolding flagOf has
+flag-low m = go (bit m)
   where
-    go : (m % 2 ≡ 0) ⊎ (m % 2 ≡ 1) → m % 2 ≡ flagOf (eqb (m % 2) 1)
+    go : (m % 2 ≡ 0) ⊎ (m % 2 ≡ 1) → flagOf (eqb (m % 2) 1) ≡ m % 2
     go (inl e) = rw e
     go (inr e) = rw e
-
-pub view-flag : (a : CodeSet) → bitAnd (a .exits) 1 ≡ flagOf (codesOf a .ends)
-unfolding codesOf has
-view-flag a = low-bit (a .exits)
 
 pub flag-small : (b : Bool) → flagOf b ≤ 1
 unfolding flagOf
@@ -81,39 +81,39 @@ or-up x y =
     let g : bitOr x y * 4 + 0 ≡ bitOr x y * 4 = omega arith in
     sym g ∙ sym (or-block 2 x y 0 0 (omega arith) (omega arith)) ∙ ap₂ bitOr e f
 
-pub view-join : (a b : CodeSet) → codesOf (words (bitOr (a .labels) (b .labels)) (bitOr (a .exits) (b .exits))) ≡ join (codesOf a) (codesOf b)
+pub view-join : (a b : CodeSet) → codesOf (words (bitOr (a .labels) (b .labels)) (bitOr (a .codes) (b .codes))) ≡ join (codesOf a) (codesOf b)
 unfolding codesOf join _union_
 view-join a b =
-    let e : bitOr (a .exits) (b .exits) / 2 ≡ bitOr (a .exits / 2) (b .exits / 2) = or-shr (a .exits) (b .exits) 1 in
-    parts (has-union (a .exits) (b .exits) 0) refl (ap (λ (n : ℕ). n * 4) e ∙ or-up (a .exits / 2) (b .exits / 2))
+    let e : bitOr (a .codes) (b .codes) / 2 ≡ bitOr (a .codes / 2) (b .codes / 2) = or-shr (a .codes) (b .codes) 1 in
+    parts (has-union (a .codes) (b .codes) 0) refl (ap (λ (n : ℕ). n * 4) e ∙ or-up (a .codes / 2) (b .codes / 2))
 
-pub view-minus : (a : CodeSet) → a .exits < 2 ^ 64 → codesOf (words (a .labels) (a .exits / 2 * 2 % 2 ^ 64)) ≡ minusZero (codesOf a)
+pub view-minus : (a : CodeSet) → a .codes < 2 ^ 64 → codesOf (words (a .labels) (a .codes / 2 * 2 % 2 ^ 64)) ≡ minusZero (codesOf a)
 unfolding codesOf minusZero has
 view-minus a h =
-    let f : a .exits / 2 * 2 % 2 ^ 64 ≡ a .exits / 2 * 2 = mod-eq-of-lt (omega arith) in
-    let e : a .exits / 2 * 2 % 2 ^ 64 % 2 ≡ 0 = rw f (omega arith) in
+    let f : a .codes / 2 * 2 % 2 ^ 64 ≡ a .codes / 2 * 2 = mod-eq-of-lt (omega arith) in
+    let e : a .codes / 2 * 2 % 2 ^ 64 % 2 ≡ 0 = rw f (omega arith) in
     parts (ap (λ (n : ℕ). eqb n 1) e) refl (rw f (omega arith))
 
-pub view-try : (a : CodeSet) → codesOf (words (a .labels) (bitOr (bitAnd (a .exits) 1) (a .exits / 2))) ≡ throughTry (codesOf a)
+pub view-try : (a : CodeSet) → codesOf (words (a .labels) (bitOr (bitAnd (a .codes) 1) (a .codes / 2))) ≡ throughTry (codesOf a)
 unfolding codesOf throughTry has _union_
 view-try a = parts low refl high
   where
-    one : bitAnd (a .exits) 1 ≡ a .exits % 2
-    one = and-mask (a .exits) 1
+    one : bitAnd (a .codes) 1 ≡ a .codes % 2
+    one = and-mask (a .codes) 1
 
-    low : has (bitOr (bitAnd (a .exits) 1) (a .exits / 2)) 0 ≡ (has (a .exits) 0 || has (a .exits / 2 * 4) 2)
+    low : has (bitOr (bitAnd (a .codes) 1) (a .codes / 2)) 0 ≡ (has (a .codes) 0 || has (a .codes / 2 * 4) 2)
     low =
-        let e : a .exits % 2 % 2 ≡ a .exits % 2 = omega arith in
-        let f : a .exits / 2 % 2 ≡ a .exits / 2 * 4 / 2 / 2 % 2 = omega arith in
-        has-union (bitAnd (a .exits) 1) (a .exits / 2) 0
+        let e : a .codes % 2 % 2 ≡ a .codes % 2 = omega arith in
+        let f : a .codes / 2 % 2 ≡ a .codes / 2 * 4 / 2 / 2 % 2 = omega arith in
+        has-union (bitAnd (a .codes) 1) (a .codes / 2) 0
         ∙ ap₂ (λ (m n : ℕ). eqb m 1 || eqb n 1) (ap (λ (n : ℕ). n % 2) one ∙ e) f
 
-    high : bitOr (bitAnd (a .exits) 1) (a .exits / 2) / 2 * 4 ≡ a .exits / 2 * 4 / 8 * 4
+    high : bitOr (bitAnd (a .codes) 1) (a .codes / 2) / 2 * 4 ≡ a .codes / 2 * 4 / 8 * 4
     high =
-        let e : bitOr (bitAnd (a .exits) 1) (a .exits / 2) / 2 ≡ bitOr (bitAnd (a .exits) 1 / 2) (a .exits / 2 / 2) = or-shr (bitAnd (a .exits) 1) (a .exits / 2) 1 in
-        let f : bitAnd (a .exits) 1 / 2 ≡ 0 = rw one (omega arith) in
-        let g : bitOr (bitAnd (a .exits) 1 / 2) (a .exits / 2 / 2) ≡ a .exits / 2 / 2 = ap (λ (n : ℕ). bitOr n (a .exits / 2 / 2)) f ∙ or-zero-l (a .exits / 2 / 2) in
-        let k : a .exits / 2 / 2 * 4 ≡ a .exits / 2 * 4 / 8 * 4 = omega arith in
+        let e : bitOr (bitAnd (a .codes) 1) (a .codes / 2) / 2 ≡ bitOr (bitAnd (a .codes) 1 / 2) (a .codes / 2 / 2) = or-shr (bitAnd (a .codes) 1) (a .codes / 2) 1 in
+        let f : bitAnd (a .codes) 1 / 2 ≡ 0 = rw one (omega arith) in
+        let g : bitOr (bitAnd (a .codes) 1 / 2) (a .codes / 2 / 2) ≡ a .codes / 2 / 2 = ap (λ (n : ℕ). bitOr n (a .codes / 2 / 2)) f ∙ or-zero-l (a .codes / 2 / 2) in
+        let k : a .codes / 2 / 2 * 4 ≡ a .codes / 2 * 4 / 8 * 4 = omega arith in
         ap (λ (n : ℕ). n * 4) (e ∙ g) ∙ k
 
 -- ---- one after the other
@@ -211,7 +211,7 @@ notBelow-even n (suc a) m e = rw e
 notBelow-half : (e f : ℕ) → f % 2 ≡ 0 → notBelow e e f ≡ notBelow e (e / 2) (f / 2) * 2
 notBelow-half e f h = notBelow-enough e (suc e) e f (omega arith) (omega arith) ∙ notBelow-even e e f h
 
--- the view moves each exit up by one place
+-- the view moves each code of 2 and up by one place
 notBelow-moved : (e f : ℕ) → f % 2 ≡ 0 → notBelow e e f / 2 * 4 ≡ notBelow (e / 2 * 4) (e / 2 * 4) (f / 2 * 4)
 notBelow-moved e f h =
     let E = e / 2 * 4 in
@@ -235,12 +235,12 @@ even-low m h = go (bit m)
     go (inl e) = e
     go (inr e) = clash (ap (λ (n : ℕ). eqb n 1) e) h
 
--- only exits are in b
-pub exits-kept : (a b : CodeSet) → codesOf b .ends ≡ false → b .labels ≡ 0
-    → codesOf (words 0 (notBelow (a .exits) (a .exits) (b .exits))) ≡ noLowerThan (codesOf a) (codesOf b)
+-- only codes of 2 and up are in b
+pub higher-kept : (a b : CodeSet) → codesOf b .ends ≡ false → b .labels ≡ 0
+    → codesOf (words 0 (notBelow (a .codes) (a .codes) (b .codes))) ≡ noLowerThan (codesOf a) (codesOf b)
 unfolding codesOf hasLow has
-exits-kept a b h l =
-    let e = even-low (b .exits) h in
-    let z : notBelow (a .exits) (a .exits) (b .exits) % 2 ≡ 0 = rw (notBelow-half (a .exits) (b .exits) e) (omega arith) in
-    parts (ap (λ (n : ℕ). eqb n 1) z ∙ sym (and-false (has (a .exits) 0))) refl (notBelow-moved (a .exits) (b .exits) e)
+higher-kept a b h l =
+    let e = even-low (b .codes) h in
+    let z : notBelow (a .codes) (a .codes) (b .codes) % 2 ≡ 0 = rw (notBelow-half (a .codes) (b .codes) e) (omega arith) in
+    parts (ap (λ (n : ℕ). eqb n 1) z ∙ sym (and-false (has (a .codes) 0))) refl (notBelow-moved (a .codes) (b .codes) e)
     ∙ sym (choose (codesOf a) (codesOf b) false false h (ap₂ (λ (b c : Bool). b || not c) h (ap (λ (n : ℕ). eqb n 0) l)))

@@ -21,9 +21,9 @@ use Rattle.table.specs.inner.Places.{Placed, statementAt}
 use Rattle.reach.specs.declared.summary.Summary.{Summary}
 use Rattle.reach.specs.inner.CodeSets.{codesOf, flagOf}
 use Rattle.reach.specs.inner.Summaries.{Summable, Summarised}
-use Rattle.reach.specs.inner.Notes.{forChildren, Noted, openNote, Opens, Wrote, From, Opened, noteOf, secondOf, endsOf}
+use Rattle.reach.specs.inner.Notes.{forChildren, Noted, noteWith, secondOf, endsOf, keptOf, withResumed, withKept, openNote, Opens, NotedChild, WritesFrom, LeavesNotes, noteOf}
 use Rattle.reach.proofs.CodeSets.{flag-small}
-use Rattle.reach.proofs.Nodes.{Node, follow, follow-forward, place-next, next-forward, next-within}
+use Rattle.table.proofs.Places.{Node, follow, follow-forward, place-next, next-forward, next-within}
 
 -- ---- A node that is there
 module _ (Own : ℕ → ℕ → Placed → Type 0) {left : ℕ} {nodes : List ℕ} {at k : ℕ} (n : Node left nodes at k) where
@@ -110,13 +110,13 @@ module _ (Own Own′ : ℕ → ℕ → Placed → Type 0) (nodes : List ℕ) whe
               )
 
 -- ---- A pass leaves them
-from-same : (at : ℕ) (xs : List ℕ) → From at xs xs
+from-same : (at : ℕ) (xs : List ℕ) → WritesFrom at xs xs
 from-same at xs = record { size = refl; low = λ i h. refl }
 
-from-set : (at : ℕ) (xs : List ℕ) (w : ℕ) (ys : List ℕ) → ys ≡ set xs at w → From at xs ys
-from-set at xs w ys e = subst (From at xs) (sym e) (record { size = length-set xs at w; low = λ i h. getD-set-other xs at i w 0 (λ z. omega arith) })
+from-set : (at : ℕ) (xs : List ℕ) (w : ℕ) (ys : List ℕ) → ys ≡ set xs at w → WritesFrom at xs ys
+from-set at xs w ys e = subst (WritesFrom at xs) (sym e) (record { size = length-set xs at w; low = λ i h. getD-set-other xs at i w 0 (λ z. omega arith) })
 
-from-both : (at u v : ℕ) (xs ys zs : List ℕ) → From u xs ys → From v ys zs → at ≤ u → at ≤ v → From at xs zs
+from-both : (at u v : ℕ) (xs ys zs : List ℕ) → WritesFrom u xs ys → WritesFrom v ys zs → at ≤ u → at ≤ v → WritesFrom at xs zs
 from-both at u v xs ys zs f g a b = record { size = g .size ∙ f .size; low = λ i h. g .low i (omega arith) ∙ f .low i (omega arith) }
 
 opens-stay : (notes endings notes′ endings′ : List ℕ) (i k : ℕ) (p : Placed) → getD notes′ i 0 ≡ getD notes i 0 → getD endings′ i 0 ≡ getD endings i 0
@@ -124,28 +124,28 @@ opens-stay : (notes endings notes′ endings′ : List ℕ) (i k : ℕ) (p : Pla
 opens-stay notes endings notes′ endings′ i k p a b h = (a ∙ h .0, λ l w. ap (λ (m : ℕ). has m l) b ∙ h .1 l w)
 
 -- where there is no child
-pub open-none : (left : ℕ) (nodes : List ℕ) (at : ℕ) (notes endings : List ℕ) → (left ≡ 0) ⊎ (length nodes ≤ at) → Opened left nodes at notes endings notes endings
+pub open-none : (left : ℕ) (nodes : List ℕ) (at : ℕ) (notes endings : List ℕ) → (left ≡ 0) ⊎ (length nodes ≤ at) → LeavesNotes left nodes at notes endings notes endings
 open-none left nodes at notes endings h =
     record { noted = noted-none (Opens notes endings) nodes left at h; notes-from = from-same at notes; endings-from = from-same at endings }
 
 module _ {left : ℕ} {nodes : List ℕ} {at k : ℕ} (n : Node left nodes at k) {notes endings : List ℕ} where
-  pub open-leaf : rowOf (kindOf k) .children ≡ 0 → Opened left nodes at notes endings notes endings
+  pub open-leaf : rowOf (kindOf k) .children ≡ 0 → LeavesNotes left nodes at notes endings notes endings
   open-leaf h = record { noted = noted-make (Opens notes endings) n (rw h tt); notes-from = from-same at notes; endings-from = from-same at endings }
 
   module _ {kept one : List ℕ} (room : Summable left nodes at kept notes endings) {P r : Summary} {notes₁ endings₁ notes₂ endings₂ : List ℕ}
-      (h : Summarised (statementAt (left - 1) nodes (at + 1)) P kept one) (o : Opened (left - 1) nodes (at + 1) notes endings notes₁ endings₁)
-      (w : Wrote P at r notes₁ endings₁ notes₂ endings₂) where
+      (h : Summarised (statementAt (left - 1) nodes (at + 1)) P kept one) (o : LeavesNotes (left - 1) nodes (at + 1) notes endings notes₁ endings₁)
+      (w : NotedChild P at r notes₁ endings₁ notes₂ endings₂) where
     abbrev first : Placed
     first = statementAt (left - 1) nodes (at + 1)
 
     abbrev note : ℕ
-    note = P .next * 4 + flagOf (codesOf (P .start) .ends)
+    note = noteWith (P .next) false (codesOf (P .start) .ends)
 
     own : Opens notes₂ endings₂ at k first
     unfolding openNote
     own = (
       ap (λ (l : List ℕ). getD l at 0) (w .note) ∙ getD-set-same notes₁ at note 0 (omega (arith, n .inside, room .all, o .notes-from .size, room .notes-are))
-          ∙ ap₂ (λ (m : ℕ) (K : Codes). m * 4 + flagOf (K .ends)) (h .next) (h .start),
+          ∙ ap₂ (λ (m : ℕ) (K : Codes). noteWith m false (K .ends)) (h .next) (h .start),
       λ l b. ap (λ (m : ℕ). has m l) (ap (λ (l : List ℕ). getD l at 0) (w .ending) ∙ getD-set-same endings₁ at (P .ending) 0 (omega (arith, n .inside, room .all, o .endings-from .size, room .endings-are)))
           ∙ h .ending l b,
     )
@@ -157,13 +157,13 @@ module _ {left : ℕ} {nodes : List ℕ} {at k : ℕ} (n : Node left nodes at k)
         (ap (λ (l : List ℕ). getD l i 0) (w .note) ∙ getD-set-other notes₁ at i note 0 (λ z. omega arith))
         (ap (λ (l : List ℕ). getD l i 0) (w .ending) ∙ getD-set-other endings₁ at i (P .ending) 0 (λ z. omega arith)))
 
-    notes-two : From at notes notes₂
+    notes-two : WritesFrom at notes notes₂
     notes-two = from-both at (at + 1) at notes notes₁ notes₂ (o .notes-from) (from-set at notes₁ note notes₂ (w .note)) (omega arith) (omega arith)
 
-    endings-two : From at endings endings₂
+    endings-two : WritesFrom at endings endings₂
     endings-two = from-both at (at + 1) at endings endings₁ endings₂ (o .endings-from) (from-set at endings₁ (P .ending) endings₂ (w .ending)) (omega arith) (omega arith)
 
-    pub open-one : rowOf (kindOf k) .children ≡ 1 → Opened left nodes at notes endings notes₂ endings₂
+    pub open-one : rowOf (kindOf k) .children ≡ 1 → LeavesNotes left nodes at notes endings notes₂ endings₂
     open-one c = record { noted = noted-make (Opens notes₂ endings₂) n (rw c (own, below)); notes-from = notes-two; endings-from = endings-two }
 
     -- what was found goes on as it was
@@ -173,8 +173,8 @@ module _ {left : ℕ} {nodes : List ℕ} {at k : ℕ} (n : Node left nodes at k)
     pub room-notes : (length notes₂ ≡ 1024) × (length endings₂ ≡ 1024)
     room-notes = (notes-two .size ∙ room .notes-are, endings-two .size ∙ room .endings-are)
 
-    pub open-two : {notes₃ endings₃ : List ℕ} → rowOf (kindOf k) .children ≡ 2 → Opened (left - 1) nodes (r .next) notes₂ endings₂ notes₃ endings₃
-        → Opened left nodes at notes endings notes₃ endings₃
+    pub open-two : {notes₃ endings₃ : List ℕ} → rowOf (kindOf k) .children ≡ 2 → LeavesNotes (left - 1) nodes (r .next) notes₂ endings₂ notes₃ endings₃
+        → LeavesNotes left nodes at notes endings notes₃ endings₃
     open-two {notes₃} {endings₃} c o₂ =
         record {
           noted = noted-make (Opens notes₃ endings₃) n (rw c (
@@ -190,8 +190,8 @@ module _ {left : ℕ} {nodes : List ℕ} {at k : ℕ} (n : Node left nodes at k)
         forward : at + 1 ≤ first .next
         forward = next-forward nodes (left - 1) (at + 1)
 
-        later : Opened (left - 1) nodes (first .next) notes₂ endings₂ notes₃ endings₃
-        later = subst (λ (m : ℕ). Opened (left - 1) nodes m notes₂ endings₂ notes₃ endings₃) (found-same .next) o₂
+        later : LeavesNotes (left - 1) nodes (first .next) notes₂ endings₂ notes₃ endings₃
+        later = subst (λ (m : ℕ). LeavesNotes (left - 1) nodes m notes₂ endings₂ notes₃ endings₃) (found-same .next) o₂
 
   -- there is room for the note
   pub note-fits : {kept one : List ℕ} → Summable left nodes at kept notes endings → {P : Summary} → Summarised (statementAt (left - 1) nodes (at + 1)) P kept one
@@ -206,31 +206,53 @@ unfolding flagOf
 has-flag true = refl
 has-flag false = refl
 
--- a place, and two flags behind it
-module _ (e : ℕ) (x y : Bool) where
-  pub flags-place : secondOf (e * 4 + flagOf x * 2 + flagOf y) ≡ e
-  unfolding secondOf
-  flags-place = omega (arith, flag-small x, flag-small y)
+-- the place and the flags that it was made of
+module _ (place : ℕ) (resumed started : Bool) where
+  pub second-with : secondOf (noteWith place resumed started) ≡ place
+  unfolding secondOf noteWith
+  second-with = omega (arith, flag-small resumed, flag-small started)
 
-  pub flags-high : has (e * 4 + flagOf x * 2 + flagOf y) 1 ≡ x
-  unfolding has
-  flags-high =
-      let h : (e * 4 + flagOf x * 2 + flagOf y) / 2 % 2 ≡ flagOf x = omega (arith, flag-small x, flag-small y) in
-      ap (λ (n : ℕ). eqb n 1) h ∙ has-flag x
+  pub resumed-with : has (noteWith place resumed started) 1 ≡ resumed
+  unfolding has noteWith
+  resumed-with =
+      let h : (place * 4 + flagOf resumed * 2 + flagOf started) / 2 % 2 ≡ flagOf resumed = omega (arith, flag-small resumed, flag-small started) in
+      ap (λ (n : ℕ). eqb n 1) h ∙ has-flag resumed
 
-  pub flags-low : has (e * 4 + flagOf x * 2 + flagOf y) 0 ≡ y
-  unfolding has
-  flags-low =
-      let h : (e * 4 + flagOf x * 2 + flagOf y) % 2 ≡ flagOf y = omega (arith, flag-small y) in
-      ap (λ (n : ℕ). eqb n 1) h ∙ has-flag y
+  pub started-with : has (noteWith place resumed started) 0 ≡ started
+  unfolding has noteWith
+  started-with =
+      let h : (place * 4 + flagOf resumed * 2 + flagOf started) % 2 ≡ flagOf started = omega (arith, flag-small started) in
+      ap (λ (n : ℕ). eqb n 1) h ∙ has-flag started
+
+  pub kept-resumed : keptOf (noteWith place resumed started) false ≡ resumed
+  unfolding keptOf
+  kept-resumed = resumed-with
+
+  pub kept-started : keptOf (noteWith place resumed started) true ≡ started
+  unfolding keptOf
+  kept-started = started-with
+
+  -- with other flags
+  pub resumed-again : (b : Bool) → withResumed (noteWith place resumed started) b ≡ noteWith place b started
+  unfolding withResumed
+  resumed-again b = ap₂ (λ (n : ℕ) (z : Bool). noteWith n b z) second-with started-with
+
+  pub kept-again : (a b : Bool) → withKept (noteWith place resumed started) a b ≡ noteWith place a b
+  unfolding withKept
+  kept-again a b = ap (λ (n : ℕ). noteWith n a b) second-with
+
+-- the note of a first child, and whether it can end for R
+pub note-completed : (R : ℕ) (p : Placed) (b : Bool) → b ≡ d R (p .statement) .ends → withResumed (openNote p) b ≡ noteOf R p
+unfolding openNote noteOf
+note-completed R p b e = resumed-again (p .next) false (s (p .statement) .ends) b ∙ ap (λ (z : Bool). noteWith (p .next) z (s (p .statement) .ends)) e
 
 pub second-note : (R : ℕ) (p : Placed) → secondOf (noteOf R p) ≡ p .next
 unfolding noteOf
-second-note R p = flags-place (p .next) (d R (p .statement) .ends) (s (p .statement) .ends)
+second-note R p = second-with (p .next) (d R (p .statement) .ends) (s (p .statement) .ends)
 
 -- "0 is in C"
 pub ends-note : (R : ℕ) (b : Bool) (p : Placed) → endsOf (noteOf R p) b ≡ canEnd R b (p .statement)
 unfolding endsOf canEnd join noteOf
 ends-note R true p =
-    ap₂ _||_ (flags-high (p .next) (d R (p .statement) .ends) (s (p .statement) .ends)) (flags-low (p .next) (d R (p .statement) .ends) (s (p .statement) .ends))
-ends-note R false p = flags-high (p .next) (d R (p .statement) .ends) (s (p .statement) .ends)
+    ap₂ _||_ (resumed-with (p .next) (d R (p .statement) .ends) (s (p .statement) .ends)) (started-with (p .next) (d R (p .statement) .ends) (s (p .statement) .ends))
+ends-note R false p = resumed-with (p .next) (d R (p .statement) .ends) (s (p .statement) .ends)

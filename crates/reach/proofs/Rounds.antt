@@ -22,11 +22,13 @@ use Rattle.esterel.specs.Reachability.{nextR, afterRounds, Reached, reach}
 use Rattle.esterel.proofs.Codes.{contains-none, contains-left, contains-right, join-cases, contains-minusZero, contains-throughTry, contains-throughTry⁺}
 use Rattle.esterel.proofs.Reachability.{d-union, d-mono, round-adds, reach-unique, afterRounds-pauses, afterRounds-grows}
 use Rattle.table.specs.Reading.{deepest}
-use Rattle.table.specs.inner.Places.{Placed, statementAt}
+use Rattle.table.specs.inner.Places.{Placed, statementAt, statementOf, Loaded}
+use Rattle.table.proofs.Places.{next-within}
+use Rattle.reach.specs.declared.Analysed.the-variants.{Rest}
 use Rattle.reach.specs.declared.summary.Summary.{Summary}
 use Rattle.reach.specs.inner.CodeSets.{followedBy}
-use Rattle.reach.specs.inner.Summaries.{resumedFrom, Gathered, EndsAlone, Summarised}
-use Rattle.reach.specs.inner.Rounds.{statementOf, Reaches}
+use Rattle.reach.specs.inner.Summaries.{resumedFrom, LabelsFrom, EndsAlone, Summarised}
+use Rattle.reach.specs.inner.Rounds.{Reaches}
 use Rattle.reach.proofs.Summing.{d-followed, d-looped, d-outside}
 
 -- ---- A code of d over R comes from one label of R
@@ -107,7 +109,7 @@ module _ (p : Placed) (found : Summary) (first kept : List ℕ) (h : Summarised 
   kept-for l k = h .resumed l (label-small l k) ∙ ap (λ (z : Bool). cond z (d (only l) P) (resumedFrom first l)) k
 
   -- the labels kept for a set are those of d over it
-  gathered : (new : ℕ) → Within new (pauses P) → (labels : ℕ) → Gathered new kept labels → labels ≡ codes.labels (d new P)
+  gathered : (new : ℕ) → Within new (pauses P) → (labels : ℕ) → LabelsFrom new kept labels → labels ≡ codes.labels (d new P)
   unfolding codes.labels contains
   gathered new n labels g = within-ext labels (d new P .pausing) sound complete
     where
@@ -222,7 +224,7 @@ module _ (p : Placed) (found : Summary) (first kept : List ℕ) (h : Summarised 
         subst₂ (λ (a c : ℕ). count 64 a < count 64 c) (sym (g .reached)) (sym next-is)
         (round-adds (p .statement) 64 (label-small p found first kept h w) rounds changed)
 
-    pub goes-on : (new : ℕ) → Gathered (bitXor next set) kept new → Going (p .statement) (labels union new) next (rounds + 1)
+    pub goes-on : (new : ℕ) → LabelsFrom (bitXor next set) kept new → Going (p .statement) (labels union new) next (rounds + 1)
     goes-on new a = record {
       reached = next-is ∙ ap (afterRounds (p .statement)) (sym (add-one rounds));
       labelled = ap₂ _union_ (g .labelled) new-is ∙ union-assoc _ _ _ ∙ ap (λ (m : ℕ). codes.labels (s (p .statement)) union m) (sym resumed-now);
@@ -257,8 +259,10 @@ module _ (p : Placed) (found : Summary) (first kept : List ℕ) (h : Summarised 
 
 pub rests : (nodes : List ℕ) (found : Summary) (first kept : List ℕ) → (h : Summarised (statementAt deepest nodes 0) found first kept) → (w : found .pauses < 2 ^ 64)
     → (labels set rounds : ℕ) → (g : Going (statementOf nodes) labels set rounds) → bitAnd (found .pauses) labels ≡ set
-    → Reaches nodes (record { start = found .start; set = set; rounds = rounds + 1 })
+    → Reaches nodes (Rest (record { start = found .start; set = set; rounds = rounds + 1 }))
 rests nodes found first kept h w labels set rounds g e = record {
+  found = record { start = found .start; set = set; rounds = rounds + 1 };
+  rest = refl;
   start = h .start;
   set = g .reached ∙ sym (ap (λ (r : Reached). r .set) unique);
   rounds = add-one rounds ∙ sym (ap (λ (r : Reached). r .rounds) unique);
@@ -266,3 +270,7 @@ rests nodes found first kept h w labels set rounds g e = record {
   where
     unique : reach (statementOf nodes) ≡ record { set = afterRounds (statementOf nodes) rounds; rounds = suc rounds }
     unique = reach-unique (statementOf nodes) rounds (sym (next-is (statementAt deepest nodes 0) found first kept h w labels set rounds g) ∙ e ∙ g .reached) (g .added)
+
+-- the place after the statement is one of the nodes', or the first past them: no node was refused
+pub not-refused : (nodes : List ℕ) (found : Summary) (first kept : List ℕ) → Loaded nodes → Summarised (statementAt deepest nodes 0) found first kept → found .next ≡ 1025 → ⊥
+not-refused nodes found first kept l h e = omega (arith, next-within nodes deepest 0 (omega arith), l .all, h .next)

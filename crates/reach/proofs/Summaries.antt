@@ -16,31 +16,28 @@ use Rattle.sets.proofs.Counts.{count, count-without}
 use Rattle.esterel.specs.Codes.{Codes, join, minusZero, throughTry}
 use Rattle.reach.specs.declared.codes.CodeSet.{CodeSet}
 use Rattle.reach.specs.inner.CodeSets.{codesOf}
-use Rattle.reach.specs.inner.Summaries.{resumedFrom, Changed, Lowered, Gathered, outline}
+use Rattle.reach.specs.inner.Summaries.{resumedFrom, storedFor, Changed, LoweredEach, LabelsFrom, Follows, outline}
 use Rattle.reach.proofs.CodeSets.{words, and-true, and-false}
 
 -- ---- Storing
-abbrev pub stored : List ℕ → ℕ → CodeSet → List ℕ
-stored kept l a = set (set kept l (a .labels)) (64 + l) (a .exits)
-
 module _ (kept : List ℕ) (l : ℕ) (a : CodeSet) where
-  pub stored-size : length (stored kept l a) ≡ length kept
-  stored-size = length-set (set kept l (a .labels)) (64 + l) (a .exits) ∙ length-set kept l (a .labels)
+  pub stored-size : length (storedFor kept l a) ≡ length kept
+  stored-size = length-set (set kept l (a .labels)) (64 + l) (a .codes) ∙ length-set kept l (a .labels)
 
-  pub stored-same : length kept ≡ 128 → l < 64 → resumedFrom (stored kept l a) l ≡ codesOf a
+  pub stored-same : length kept ≡ 128 → l < 64 → resumedFrom (storedFor kept l a) l ≡ codesOf a
   unfolding resumedFrom
   stored-same room b =
       let n = length-set kept l (a .labels) in
       ap₂ (λ (x y : ℕ). codesOf (words x y))
-      (getD-set-other (set kept l (a .labels)) (64 + l) l (a .exits) 0 (λ e. omega arith) ∙ getD-set-same kept l (a .labels) 0 (omega arith))
-      (getD-set-same (set kept l (a .labels)) (64 + l) (a .exits) 0 (omega arith))
+      (getD-set-other (set kept l (a .labels)) (64 + l) l (a .codes) 0 (λ e. omega arith) ∙ getD-set-same kept l (a .labels) 0 (omega arith))
+      (getD-set-same (set kept l (a .labels)) (64 + l) (a .codes) 0 (omega arith))
 
-  pub stored-other : (x : ℕ) → l < 64 → x < 64 → x ≢ l → resumedFrom (stored kept l a) x ≡ resumedFrom kept x
+  pub stored-other : (x : ℕ) → l < 64 → x < 64 → x ≢ l → resumedFrom (storedFor kept l a) x ≡ resumedFrom kept x
   unfolding resumedFrom
   stored-other x b h n =
       ap₂ (λ (u v : ℕ). codesOf (words u v))
-      (getD-set-other (set kept l (a .labels)) (64 + l) x (a .exits) 0 (λ e. omega arith) ∙ getD-set-other kept l x (a .labels) 0 n)
-      (getD-set-other (set kept l (a .labels)) (64 + l) (64 + x) (a .exits) 0 (λ e. n (omega arith)) ∙ getD-set-other kept l (64 + x) (a .labels) 0 (λ e. omega arith))
+      (getD-set-other (set kept l (a .labels)) (64 + l) x (a .codes) 0 (λ e. omega arith) ∙ getD-set-other kept l x (a .labels) 0 n)
+      (getD-set-other (set kept l (a .labels)) (64 + l) (64 + x) (a .codes) 0 (λ e. n (omega arith)) ∙ getD-set-other kept l (64 + x) (a .labels) 0 (λ e. omega arith))
 
 -- ---- The labels of a set, one after the other
 -- those of `set` that are not in `rest` have been changed
@@ -99,7 +96,7 @@ module _ (set rest : ℕ) (F : Codes → Codes) (first kept : List ℕ) (w : Wal
   fresh : resumedFrom kept l ≡ resumedFrom first l
   fresh = w .changed .each l b ∙ ap (λ (z : Bool). cond z (F (resumedFrom first l)) (resumedFrom first l)) not-yet
 
-  pub walk-on : length first ≡ 128 → (a : CodeSet) → codesOf a ≡ F (resumedFrom kept l) → (kept′ : List ℕ) → kept′ ≡ stored kept l a
+  pub walk-on : length first ≡ 128 → (a : CodeSet) → codesOf a ≡ F (resumedFrom kept l) → (kept′ : List ℕ) → kept′ ≡ storedFor kept l a
       → (rest′ : ℕ) → rest′ ≡ rest without l → Walking set rest′ F first kept′
   walk-on room a e kept′ k rest′ r = subst (Walking set rest′ F first) (sym k) record {
     within = λ x k. w .within x (stays-in rest l rest′ r x k);
@@ -110,7 +107,7 @@ module _ (set rest : ℕ) (F : Codes → Codes) (first kept : List ℕ) (w : Wal
   }
     where
       Goal : ℕ → Type 0
-      Goal x = resumedFrom (stored kept l a) x ≡ cond (has (set minus rest′) x) (F (resumedFrom first x)) (resumedFrom first x)
+      Goal x = resumedFrom (storedFor kept l a) x ≡ cond (has (set minus rest′) x) (F (resumedFrom first x)) (resumedFrom first x)
 
       each : (x : ℕ) → x < 64 → Dec (x ≡ l) → Goal x
       each x c (yes q) = subst Goal (sym q) (
@@ -133,14 +130,14 @@ lower-begins set kept = record {
   ends = λ l b. has-empty l ∙ sym (ap (λ (z : Bool). z && throughTry (resumedFrom kept l) .ends) (none-left set l));
 }
 
-pub lower-ends : (set rest : ℕ) (kept kept′ : List ℕ) (ending : ℕ) → Lowering set rest kept kept′ ending → rest ≡ 0 → Lowered set kept kept′ ending
+pub lower-ends : (set rest : ℕ) (kept kept′ : List ℕ) (ending : ℕ) → Lowering set rest kept kept′ ending → rest ≡ 0 → LoweredEach set kept kept′ ending
 lower-ends set rest kept kept′ ending w e = record {
   changed = walk-ends set rest throughTry kept kept′ (w .walking) e;
   ends = λ l b. w .ends l b ∙ ap (λ (z : Bool). z && throughTry (resumedFrom kept l) .ends) (all-done set rest l e);
 }
 
 module _ (set rest : ℕ) (first kept : List ℕ) (ending : ℕ) (w : Lowering set rest first kept ending) (l : ℕ) (b : l < 64) (h : has rest l ≡ true) where
-  pub lower-on : length first ≡ 128 → (a : CodeSet) → codesOf a ≡ throughTry (resumedFrom kept l) → (kept′ : List ℕ) → kept′ ≡ stored kept l a
+  pub lower-on : length first ≡ 128 → (a : CodeSet) → codesOf a ≡ throughTry (resumedFrom kept l) → (kept′ : List ℕ) → kept′ ≡ storedFor kept l a
       → (own : ℕ) → own ≡ cond (codesOf a .ends) (only l) 0 → (rest′ : ℕ) → rest′ ≡ rest without l → Lowering set rest′ first kept′ (ending union own)
   lower-on room a e kept′ k own o rest′ r = record {
     walking = walk-on set rest throughTry first kept (w .walking) l b h room a e kept′ k rest′ r;
@@ -174,7 +171,7 @@ pub record Gathering (set rest : ℕ) (kept : List ℕ) (labels : ℕ) : Type 0 
 pub gather-begins : (set : ℕ) (kept : List ℕ) → Gathering set set kept 0
 gather-begins set kept = record { within = λ x h. h; sound = λ x h. clash h (has-empty x); complete = λ l x b h k. inl h }
 
-pub gather-ends : (set rest : ℕ) (kept : List ℕ) (labels : ℕ) → Gathering set rest kept labels → rest ≡ 0 → Gathered set kept labels
+pub gather-ends : (set rest : ℕ) (kept : List ℕ) (labels : ℕ) → Gathering set rest kept labels → rest ≡ 0 → LabelsFrom set kept labels
 gather-ends set rest kept labels g e = record {
   sound = g .sound;
   complete = λ l x b h k. ⊎-elim (λ u. clash (ap (λ (m : ℕ). has m l) (sym e) ∙ u) (has-empty l)) (λ v. v) (g .complete l x b h k);
@@ -209,17 +206,16 @@ pub outline-own : {K K′ : Codes} {l l′ n : ℕ} → K ≡ K′ → l ≡ l�
 outline-own f g = rw (f, g)
 
 -- a pause by itself
-pub changed-own : (kept : List ℕ) → length kept ≡ 128 → (l : ℕ) → l < 64 → (a : CodeSet) {K : Codes} → codesOf a ≡ K → (kept′ : List ℕ) → kept′ ≡ stored kept l a
+pub changed-own : (kept : List ℕ) → length kept ≡ 128 → (l : ℕ) → l < 64 → (a : CodeSet) {K : Codes} → codesOf a ≡ K → (kept′ : List ℕ) → kept′ ≡ storedFor kept l a
     → Changed (only l) (λ D. K) kept kept′
 changed-own kept room l b a {K} e kept′ k = subst (Changed (only l) (λ D. K) kept) (sym k) record { size = stored-size kept l a; each = λ x c. each x c (ℕ-discrete x l) }
   where
     Goal : ℕ → Type 0
-    Goal x = resumedFrom (stored kept l a) x ≡ cond (has (only l) x) K (resumedFrom kept x)
+    Goal x = resumedFrom (storedFor kept l a) x ≡ cond (has (only l) x) K (resumedFrom kept x)
 
     each : (x : ℕ) → x < 64 → Dec (x ≡ l) → Goal x
     each x c (yes q) = subst Goal (sym q) (stored-same kept l a room b ∙ e ∙ sym (ap (λ (z : Bool). cond z K (resumedFrom kept l)) (has-only l)))
     each x c (no n) = stored-other kept l a x b c n ∙ sym (ap (λ (z : Bool). cond z K (resumedFrom kept x)) (has-only-other l x (λ e. n (sym e))))
 
-pub follow-same : {set : ℕ} {K K′ : Codes} {kept kept′ : List ℕ} → Changed set (λ D. join (minusZero D) K) kept kept′ → K ≡ K′
-    → Changed set (λ D. join (minusZero D) K′) kept kept′
-follow-same {set} {K} {K′} {kept} {kept′} h e = subst (λ (S : Codes). Changed set (λ D. join (minusZero D) S) kept kept′) e h
+pub follow-same : {set : ℕ} {K K′ : Codes} {kept kept′ : List ℕ} → Follows set K kept kept′ → K ≡ K′ → Follows set K′ kept kept′
+follow-same {set} {K} {K′} {kept} {kept′} h e = subst (λ (S : Codes). Follows set S kept kept′) e h

@@ -3,6 +3,7 @@ use mathlib.Core.Path.{_≡_, refl, sym, ap, ap₂, _∙_, subst}
 use mathlib.Core.Logic.{_⊎_}
 use mathlib.Core.List.{List}
 use Prim.Native.Nat.{ℕ, suc, _+_, _-_, _≤_}
+use native.Mathlib.Omega.{arith}
 use lib.ListN.{length, getD}
 use Rattle.sets.specs.Set.{only, _union_, Apart}
 use Rattle.esterel.specs.Statement.{Statement, nothing, pause, gotopause, emit, exit, present, sequence, parallel, pauses, Valid}
@@ -12,8 +13,8 @@ use Rattle.table.specs.Reading.{operandOf}
 use Rattle.table.specs.inner.Places.{Placed, placed, placeTwo, placeKind, statementAt}
 use Rattle.reach.specs.declared.summary.Summary.{Summary}
 use Rattle.reach.specs.inner.CodeSets.{codesOf}
-use Rattle.reach.specs.inner.Summaries.{Changed, Lowered, outline, outlineOf, presentOutline, sequenceOutline, parallelOutline, Summable, Summarised}
-use Rattle.reach.proofs.Nodes.{Node, placed-node, placed-none, kind-unused}
+use Rattle.reach.specs.inner.Summaries.{Changed, LoweredEach, Follows, outline, outlineOf, presentOutline, sequenceOutline, parallelOutline, Summable, Summarised}
+use Rattle.table.proofs.Places.{Node, placed-node, placed-none}
 use Rattle.reach.proofs.Summing.{sum-none, sum-pause, sum-beside, sum-sequence, sum-signal, sum-loop, sum-try}
 
 -- what was found of the statement that stands there
@@ -43,11 +44,6 @@ module _ {left : ℕ} {nodes : List ℕ} {at : ℕ} (found : Summary) (kept : Li
   unfolding kindOf kinds placeKind s pauses
   at-exit n e = found-here (placed-node n) (sum-none found kept (exit (operandOf (getD nodes at 0))) (at + 1) refl refl e)
 
-  pub at-unused : (k : ℕ) → 11 ≤ k → Node left nodes at k → outlineOf found ≡ outline justEnded 0 0 (at + 1) → Summarised (statementAt left nodes at) found kept kept
-  unfolding placeKind s pauses
-  at-unused k h n e =
-      found-here (placed-node n ∙ ap (λ (i : Kind). placeKind i (operandOf (getD nodes at 0)) (statementAt (left - 1) nodes) (at + 1)) (kind-unused k h)) (sum-none found kept nothing (at + 1) refl refl e)
-
   pub at-pause : (kept′ : List ℕ) → Node left nodes at 1 → (o : ℕ) → o ≡ operandOf (getD nodes at 0)
       → (outlineOf found ≡ outline (justAt o) (only o) (only o) (at + 1)) × Changed (only o) (λ K. justEnded) kept kept′
       → Summarised (statementAt left nodes at) found kept kept′
@@ -58,7 +54,11 @@ module _ {left : ℕ} {nodes : List ℕ} {at : ℕ} (found : Summary) (kept : Li
 module _ {left : ℕ} {nodes : List ℕ} {at : ℕ} {kept notes endings : List ℕ} (h : Summable left nodes at kept notes endings) where
   -- below it, in so many tries
   entered : (tries : ℕ) → Valid tries (statementAt (left - 1) nodes (at + 1) .statement) → Summable (left - 1) nodes (at + 1) kept notes endings
-  entered tries v = record { tries = tries; valid = v; all = h .all; room = h .room; notes-are = h .notes-are; endings-are = h .endings-are }
+  entered tries v = record { tries = tries; valid = v; all = h .all; known = h .known; room = h .room; notes-are = h .notes-are; endings-are = h .endings-are }
+
+  -- no node is of a kind above 10
+  pub never-unknown : (k : ℕ) → 11 ≤ k → Node left nodes at k → ⊥
+  never-unknown k b n = omega (arith, h .known at, n .kind)
 
   -- an exit has a level from 1 on
   pub exit-level : Node left nodes at 4 → 1 ≤ operandOf (getD nodes at 0)
@@ -83,13 +83,13 @@ module _ {left : ℕ} {nodes : List ℕ} {at : ℕ} {P : Summary} {kept one : Li
   at-signal n h = found-here (placed-node n) (sum-signal h (operandOf (getD nodes at 0)))
 
   pub at-loop : (found : Summary) (two : List ℕ) → Node left nodes at 9 → Summarised (statementAt (left - 1) nodes (at + 1)) P kept one
-      → (outlineOf found ≡ outline (minusZero (codesOf (P .start))) (P .pauses) 0 (P .next)) × Changed (P .ending) (λ K. join (minusZero K) (minusZero (codesOf (P .start)))) one two
+      → (outlineOf found ≡ outline (minusZero (codesOf (P .start))) (P .pauses) 0 (P .next)) × Follows (P .ending) (minusZero (codesOf (P .start))) one two
       → Summarised (statementAt left nodes at) found kept two
   unfolding kindOf kinds placeKind
   at-loop found two n h g = found-here (placed-node n) (sum-loop h found two g)
 
   pub at-try : (found : Summary) (two : List ℕ) → Node left nodes at 10 → Summarised (statementAt (left - 1) nodes (at + 1)) P kept one
-      → (outlineOf found ≡ outline (throughTry (codesOf (P .start))) (P .pauses) (found .ending) (P .next)) × Lowered (P .pauses) one two (found .ending)
+      → (outlineOf found ≡ outline (throughTry (codesOf (P .start))) (P .pauses) (found .ending) (P .next)) × LoweredEach (P .pauses) one two (found .ending)
       → Summarised (statementAt left nodes at) found kept two
   unfolding kindOf kinds placeKind
   at-try found two n h g = found-here (placed-node n) (sum-try h found two g)
@@ -134,6 +134,7 @@ module _ {k : ℕ} {f : ℕ → Statement → Statement → Statement} (S : Spli
       tries = h .tries;
       valid = subst (λ (m : ℕ). Valid (h .tries) (statementAt (left - 1) nodes m .statement)) (sym (g .next)) (held .1);
       all = h .all;
+      known = h .known;
       room = g .size ∙ h .room;
       notes-are = n;
       endings-are = e;
@@ -162,6 +163,6 @@ module _ {left : ℕ} {nodes : List ℕ} {at : ℕ} {kept notes endings : List �
   at-parallel n e = at-beside parallel-splits n h g i found (sym (ap₂ maximum (g .start) (second-found parallel-splits n h g i .start))) (λ l. refl) refl e
 
   pub at-sequence : (three : List ℕ) → Node left nodes at 7
-      → (outlineOf found ≡ sequenceOutline (outlineOf P) (outlineOf Q)) × Changed (P .ending) (λ K. join (minusZero K) (codesOf (Q .start))) two three
+      → (outlineOf found ≡ sequenceOutline (outlineOf P) (outlineOf Q)) × Follows (P .ending) (codesOf (Q .start)) two three
       → Summarised (statementAt left nodes at) found kept three
   at-sequence three n c = found-here (here-two sequence-splits n h) (sum-sequence g (second-found sequence-splits n h g i) (held sequence-splits n h .2) found three c)

@@ -15,7 +15,7 @@ use Rattle.esterel.proofs.Codes.{join-none, none-join, followed, s-sequence, d-
 use Rattle.table.specs.inner.Places.{Placed, placed}
 use Rattle.reach.specs.declared.summary.Summary.{Summary}
 use Rattle.reach.specs.inner.CodeSets.{codesOf, followedBy}
-use Rattle.reach.specs.inner.Summaries.{resumedFrom, Changed, Lowered, Outline, outline, outlineOf, sequenceOutline, Summarised}
+use Rattle.reach.specs.inner.Summaries.{resumedFrom, Changed, LoweredEach, Follows, Outline, outline, outlineOf, sequenceOutline, Summarised}
 use Rattle.reach.proofs.CodeSets.{goes-on, stops, and-true, and-false}
 
 none-followed : (S : Codes) → followedBy none S ≡ none
@@ -222,7 +222,7 @@ module _ {p q : Placed} {P Q : Summary} {kept one two : List ℕ} (h : Summarise
       in-both l = ap (λ (m : ℕ). has m l) n ∙ has-union (pauses (p .statement)) (pauses (q .statement)) l
 
   pub sum-sequence : (found : Summary) (three : List ℕ)
-      → (outlineOf found ≡ sequenceOutline (outlineOf P) (outlineOf Q)) × Changed (P .ending) (λ K. join (minusZero K) (codesOf (Q .start))) two three
+      → (outlineOf found ≡ sequenceOutline (outlineOf P) (outlineOf Q)) × Follows (P .ending) (codesOf (Q .start)) two three
       → Summarised (placed (sequence (p .statement) (q .statement)) (q .next)) found kept three
   unfolding outlineOf sequenceOutline pauses
   sum-sequence found three (e, c) = record {
@@ -259,7 +259,7 @@ module _ {p : Placed} {P : Summary} {kept one : List ℕ} (h : Summarised p P ke
   sum-signal n = record { start = h .start; labels = h .labels; ending = h .ending; next = h .next; size = h .size; resumed = h .resumed }
 
   pub sum-loop : (found : Summary) (two : List ℕ)
-      → (outlineOf found ≡ outline (minusZero (codesOf (P .start))) (P .pauses) 0 (P .next)) × Changed (P .ending) (λ K. join (minusZero K) (minusZero (codesOf (P .start)))) one two
+      → (outlineOf found ≡ outline (minusZero (codesOf (P .start))) (P .pauses) 0 (P .next)) × Follows (P .ending) (minusZero (codesOf (P .start))) one two
       → Summarised (placed (loop (p .statement)) (p .next)) found kept two
   unfolding outlineOf s pauses
   sum-loop found two (e, c) = record {
@@ -278,7 +278,7 @@ module _ {p : Placed} {P : Summary} {kept one : List ℕ} (h : Summarised p P ke
   }
 
   pub sum-try : (found : Summary) (two : List ℕ)
-      → (outlineOf found ≡ outline (throughTry (codesOf (P .start))) (P .pauses) (found .ending) (P .next)) × Lowered (P .pauses) one two (found .ending)
+      → (outlineOf found ≡ outline (throughTry (codesOf (P .start))) (P .pauses) (found .ending) (P .next)) × LoweredEach (P .pauses) one two (found .ending)
       → Summarised (placed (try (p .statement)) (p .next)) found kept two
   unfolding outlineOf s d pauses
   sum-try found two (e, c) = record {

@@ -2,15 +2,24 @@
 use esterel::Code;
 use esterel::Label;
 ghost use mathlib.Core.Path.{_≡_};
+ghost use mathlib.Core.Logic.{_≢_};
 ghost use Prim.Native.Nat.{_≤_, _<_};
 ghost use Rattle.esterel.specs.Codes as set;
-ghost use Rattle.reach.specs.inner.CodeSets.{codesOf, flagOf, followedBy};
+ghost use Rattle.reach.specs.inner.CodeSets.{placeOf, codesOf, followedBy};
 
-// The labels whose code 1 is in the set, and its other codes: bit 0 for code 0, and bit d for the code of an exit of
-// level d, since code 64 has no place of its own in 64 bits.
+// The labels whose code 1 is in the set, and the word of its other codes: bit 0 for code 0, bit k − 1 for a code k of 2 and
+// up. Code 1 needs no bit there, so codes 0 to 64 fit.
 pub struct CodeSet {
     pub labels: u64,
-    pub exits: u64,
+    pub codes: u64,
+}
+
+// The place of a code in the word of codes; code 1 has none.
+fn place_of(code: Code) -> u16
+    requires { ⌜ code .0 ≢ 1 ⌝ }
+    ensures { λ r. ⌜ r ≡ placeOf (code .0) ⌝ }
+{
+    if code.0 == 0 { 0 } else { code.0 - 1 }
 }
 
 pub fn just_ended() -> CodeSet
@@ -18,7 +27,7 @@ pub fn just_ended() -> CodeSet
 {
     CodeSet {
         labels: 0,
-        exits: 1,
+        codes: 1 << place_of(Code(0)),
     }
 }
 
@@ -28,7 +37,7 @@ pub fn just_at(label: Label) -> CodeSet
 {
     CodeSet {
         labels: 1 << label.0,
-        exits: 0,
+        codes: 0,
     }
 }
 
@@ -39,7 +48,7 @@ pub fn just_code(code: Code) -> CodeSet
 {
     CodeSet {
         labels: 0,
-        exits: 1 << (code.0 - 1),
+        codes: 1 << place_of(code),
     }
 }
 
@@ -47,14 +56,7 @@ pub fn just_code(code: Code) -> CodeSet
 pub fn ends(a: CodeSet) -> bool
     ensures { λ r. ⌜ r ≡ codesOf a .ends ⌝ }
 {
-    a.exits & 1 == 1
-}
-
-// The same as a number.
-pub fn flag(a: CodeSet) -> u16
-    ensures { λ r. ⌜ r ≡ flagOf (codesOf a .ends) ⌝ }
-{
-    (a.exits & 1) as u16
+    a.codes & 1 == 1
 }
 
 pub fn join(a: CodeSet, b: CodeSet) -> CodeSet
@@ -62,7 +64,7 @@ pub fn join(a: CodeSet, b: CodeSet) -> CodeSet
 {
     CodeSet {
         labels: a.labels | b.labels,
-        exits: a.exits | b.exits,
+        codes: a.codes | b.codes,
     }
 }
 
@@ -71,7 +73,7 @@ pub fn minus_zero(a: CodeSet) -> CodeSet
 {
     CodeSet {
         labels: a.labels,
-        exits: a.exits >> 1 << 1,
+        codes: a.codes >> 1 << 1,
     }
 }
 
@@ -80,7 +82,7 @@ pub fn through_try(a: CodeSet) -> CodeSet
 {
     CodeSet {
         labels: a.labels,
-        exits: a.exits & 1 | a.exits >> 1,
+        codes: a.codes & 1 | a.codes >> 1,
     }
 }
 
@@ -102,7 +104,7 @@ fn not_below(a: u64, b: u64) -> u64
     a >> least << least
 }
 
-// The codes of `a` that are no lower than some code of `b`: 0 is below a label, a label below an exit.
+// The codes of `a` that are no lower than some code of `b`: 0 is below a label, a label below a code of 2 and up.
 fn no_lower_than(a: CodeSet, b: CodeSet) -> CodeSet
     ensures { λ r. ⌜ codesOf r ≡ set.noLowerThan (codesOf a) (codesOf b) ⌝ }
 {
@@ -114,7 +116,7 @@ fn no_lower_than(a: CodeSet, b: CodeSet) -> CodeSet
     }
     CodeSet {
         labels: 0,
-        exits: not_below(a.exits, b.exits),
+        codes: not_below(a.codes, b.codes),
     }
 }
 

@@ -8,8 +8,9 @@ use codes::CodeSet;
 use table::Checked;
 ghost use mathlib.Core.Path.{_≡_};
 ghost use lib.ListN.{length};
-ghost use Rattle.reach.specs.Answers.{reachOf};
-ghost use Rattle.reach.specs.inner.Rounds.{Sound, Ready, Reaches, Rests};
+ghost use Rattle.table.specs.inner.Places.{Known, Loaded};
+ghost use Rattle.reach.specs.Answers.{reachedOutcome, reachOf};
+ghost use Rattle.reach.specs.inner.Rounds.{Settleable, Reaches, Rests};
 
 // What the rounds come to: the codes of the started statement, R, and the number of rounds.
 pub struct Settled {
@@ -18,18 +19,27 @@ pub struct Settled {
     pub rounds: u32,
 }
 
+// The analysis of nodes: refused where one is of a kind above 10, which is never so for those of an accepted table.
+pub enum Analysed {
+    Refused,
+    Rest(Settled),
+}
+
 // Rounds until one adds no label, with room lent for the summary and the notes. The nodes are passed over once; a round joins
 // what the summary has of the labels that the round before it added.
 fn rounds_with(
-    nodes: &[u16; 1024],
-    kept: &mut [u64; 128],
-    notes: &mut [u16; 1024],
-    endings: &mut [u64; 1024],
-) -> Settled
-    requires { ⌜ Ready (now nodes) (now notes) (now endings) × (length (now kept) ≡ 128) ⌝ }
+    nodes: &[u16; table::MOST_NODES],
+    kept: &mut [u64; summary::KEPT],
+    notes: &mut [u16; table::MOST_NODES],
+    endings: &mut [u64; table::MOST_NODES],
+) -> Analysed
+    requires { ⌜ Settleable (now nodes) (now notes) (now endings) × (length (now kept) ≡ 128) ⌝ }
     ensures { λ r. ⌜ Rests (now (nodes .entry)) r (now (notes .exit)) (now (endings .exit)) ⌝ }
 {
-    let found = summary::summary_at(nodes, 0, 60, kept, notes, endings);
+    let found = summary::summary_at(nodes, 0, table::DEEPEST, kept, notes, endings);
+    if found.next == summary::REFUSED {
+        return Analysed::Refused;
+    }
     let start = found.start;
     let pauses = found.pauses;
     let mut labels = start.labels;
@@ -39,7 +49,7 @@ fn rounds_with(
         let next = pauses & labels;
         rounds += 1;
         if next == set {
-            break Settled { start, set, rounds };
+            break Analysed::Rest(Settled { start, set, rounds });
         }
         labels |= summary::labels_from(kept, next ^ set);
         set = next;
@@ -48,21 +58,25 @@ fn rounds_with(
 
 // The rounds over the nodes of a statement. Those who walk the nodes with R find at each node with children its note, and the
 // labels from which alone its first child can end.
-pub fn settle(nodes: &[u16; 1024], notes: &mut [u16; 1024], endings: &mut [u64; 1024]) -> Settled
-    requires { ⌜ Ready (now nodes) (now notes) (now endings) ⌝ }
+pub fn settle(
+    nodes: &[u16; table::MOST_NODES],
+    notes: &mut [u16; table::MOST_NODES],
+    endings: &mut [u64; table::MOST_NODES],
+) -> Analysed
+    requires { ⌜ Settleable (now nodes) (now notes) (now endings) ⌝ }
     ensures { λ r. ⌜ Rests (now (nodes .entry)) r (now (notes .exit)) (now (endings .exit)) ⌝ }
 {
-    let mut kept = [0u64; 128];
+    let mut kept = [0u64; summary::KEPT];
     rounds_with(nodes, &mut kept, notes, endings)
 }
 
 // The rounds alone.
-fn rounds_of(nodes: &[u16; 1024]) -> Settled
-    requires { ⌜ Sound (now nodes) ⌝ }
+fn rounds_of(nodes: &[u16; table::MOST_NODES]) -> Analysed
+    requires { ⌜ Loaded (now nodes) ⌝ }
     ensures { λ r. ⌜ Reaches (now (nodes .entry)) r ⌝ }
 {
-    let mut notes = [0u16; 1024];
-    let mut endings = [0u64; 1024];
+    let mut notes = [0u16; table::MOST_NODES];
+    let mut endings = [0u64; table::MOST_NODES];
     settle(nodes, &mut notes, &mut endings)
 }
 
@@ -80,15 +94,18 @@ pub enum Reached {
 }
 
 // Reach, with room lent for the nodes.
-fn reach_with(table: &[u8], nodes: &mut [u16; 1024]) -> Reached
-    requires { ⌜ length (now nodes) ≡ 1024 ⌝ }
-    ensures { λ r. ⌜ r ≡ reachOf (now (table .entry)) ⌝ }
+fn reach_with(table: &[u8], nodes: &mut [u16; table::MOST_NODES]) -> Reached
+    requires { ⌜ (length (now nodes) ≡ 1024) × Known (now nodes) ⌝ }
+    ensures { λ r. ⌜ reachedOutcome r ≡ reachOf (now (table .entry)) ⌝ }
 {
     let checked = table::load(table, nodes);
     let Checked::Accepted(_) = checked else {
         return Reached::Refused(table::refusal(checked));
     };
-    let found = rounds_of(nodes);
+    let analysed = rounds_of(nodes);
+    let Analysed::Rest(found) = analysed else {
+        return Reached::Refused(6);
+    };
     let start = found.start;
     Reached::Found {
         ends: codes::ends(start),
@@ -100,8 +117,8 @@ fn reach_with(table: &[u8], nodes: &mut [u16; 1024]) -> Reached
 
 // The labels that a program can ever reach.
 pub fn reach(table: &[u8]) -> Reached
-    ensures { λ r. ⌜ r ≡ reachOf (now (table .entry)) ⌝ }
+    ensures { λ r. ⌜ reachedOutcome r ≡ reachOf (now (table .entry)) ⌝ }
 {
-    let mut nodes = [0u16; 1024];
+    let mut nodes = [0u16; table::MOST_NODES];
     reach_with(table, &mut nodes)
 }

@@ -2,6 +2,7 @@
 // statement resumed from its label alone. The rounds need no more of the nodes.
 use crate::codes;
 use crate::codes::CodeSet;
+use crate::noted;
 use esterel::Label;
 use esterel::Level;
 ghost use mathlib.Core.Path.{_≡_};
@@ -12,8 +13,17 @@ ghost use Rattle.sets.specs.Set.{only};
 ghost use Rattle.esterel.specs.Codes.{codeOf, justEnded, justAt, justCode, join, minusZero, throughTry};
 ghost use Rattle.table.specs.inner.Places.{statementAt};
 ghost use Rattle.reach.specs.inner.CodeSets.{codesOf};
-ghost use Rattle.reach.specs.inner.Summaries.{resumedFrom, Changed, Lowered, Gathered, outline, outlineOf, presentOutline, sequenceOutline, parallelOutline, Summable, Summarised};
-ghost use Rattle.reach.specs.inner.Notes.{Wrote, Opened};
+ghost use Rattle.reach.specs.inner.Summaries.{resumedFrom, storedFor, Changed, LoweredEach, LabelsFrom, Follows};
+ghost use Rattle.reach.specs.inner.Summaries.{outline, outlineOf, presentOutline, sequenceOutline, parallelOutline, Summable, Summarised};
+ghost use Rattle.reach.specs.inner.Notes.{NotedChild, LeavesNotes};
+
+// The number of labels, 0 to 63, and of the words kept for them: the labels of each, then the other codes of each.
+const LABELS: usize = 64;
+
+pub const KEPT: usize = 128;
+
+// The place after a statement that is refused: beyond every place, so that what stands there is refused as well.
+pub const REFUSED: usize = 1025;
 
 // The codes of the started statement, the labels of its pauses, those of them from which it can end, and the place after
 // its last node.
@@ -25,41 +35,37 @@ pub struct Summary {
 }
 
 // The codes kept for a label.
-fn read(kept: &[u64; 128], label: Label) -> CodeSet
+fn read(kept: &[u64; KEPT], label: Label) -> CodeSet
     requires { ⌜ label .0 < 64 ⌝ }
     ensures { λ r. ⌜ codesOf r ≡ resumedFrom (now (kept .entry)) (label .0) ⌝ }
 {
     let at = label.0 as usize;
     CodeSet {
         labels: kept[at],
-        exits: kept[64 + at],
+        codes: kept[LABELS + at],
     }
 }
 
-fn store(kept: &mut [u64; 128], label: Label, codes: CodeSet)
+fn store(kept: &mut [u64; KEPT], label: Label, a: CodeSet)
     requires { ⌜ label .0 < 64 ⌝ }
-    ensures { λ _. ⌜ now (kept .exit) ≡ set (set (now (kept .entry)) (label .0) (codes .labels)) (64 + label .0) (codes .exits) ⌝ }
+    ensures { λ _. ⌜ now (kept .exit) ≡ storedFor (now (kept .entry)) (label .0) a ⌝ }
 {
     let at = label.0 as usize;
-    kept[at] = codes.labels;
-    kept[64 + at] = codes.exits;
+    kept[at] = a.labels;
+    kept[LABELS + at] = a.codes;
 }
 
 // Where the statement could end from a label of the set, it goes on with the codes.
-fn follow_each(kept: &mut [u64; 128], set: u64, after: CodeSet)
+fn follow_each(kept: &mut [u64; KEPT], set: u64, after: CodeSet)
     requires { ⌜ length (now kept) ≡ 128 ⌝ }
-    ensures { λ _. ⌜ Changed set (λ K. join (minusZero K) (codesOf after)) (now (kept .entry)) (now (kept .exit)) ⌝ }
+    ensures { λ _. ⌜ Follows set (codesOf after) (now (kept .entry)) (now (kept .exit)) ⌝ }
 {
     let mut rest = set;
     while rest != 0 {
-        let label = sets::least(rest);
-        let before = read(kept, Label(label));
-        store(
-            kept,
-            Label(label),
-            codes::join(codes::minus_zero(before), after),
-        );
-        rest = sets::without(rest, label);
+        let label = Label(sets::least(rest));
+        let before = read(kept, label);
+        store(kept, label, codes::join(codes::minus_zero(before), after));
+        rest = sets::without(rest, label.0);
     }
 }
 
@@ -71,38 +77,38 @@ fn set_if(yes: bool, set: u64) -> u64
 }
 
 // What is kept for the labels of the set goes through a try. Gives those from which the statement then ends.
-fn lower_each(kept: &mut [u64; 128], set: u64) -> u64
+fn lower_each(kept: &mut [u64; KEPT], set: u64) -> u64
     requires { ⌜ length (now kept) ≡ 128 ⌝ }
-    ensures { λ r. ⌜ Lowered set (now (kept .entry)) (now (kept .exit)) r ⌝ }
+    ensures { λ r. ⌜ LoweredEach set (now (kept .entry)) (now (kept .exit)) r ⌝ }
 {
     let mut rest = set;
     let mut ending: u64 = 0;
     while rest != 0 {
-        let label = sets::least(rest);
-        let lowered = codes::through_try(read(kept, Label(label)));
-        store(kept, Label(label), lowered);
-        ending |= set_if(codes::ends(lowered), sets::singleton(label));
-        rest = sets::without(rest, label);
+        let label = Label(sets::least(rest));
+        let lowered = codes::through_try(read(kept, label));
+        store(kept, label, lowered);
+        ending |= set_if(codes::ends(lowered), sets::singleton(label.0));
+        rest = sets::without(rest, label.0);
     }
     ending
 }
 
 // The labels that are kept for the labels of the set.
-pub fn labels_from(kept: &[u64; 128], set: u64) -> u64
-    ensures { λ r. ⌜ Gathered set (now (kept .entry)) r ⌝ }
+pub fn labels_from(kept: &[u64; KEPT], set: u64) -> u64
+    ensures { λ r. ⌜ LabelsFrom set (now (kept .entry)) r ⌝ }
 {
     let mut rest = set;
     let mut labels: u64 = 0;
     while rest != 0 {
-        let label = sets::least(rest);
-        let codes = read(kept, Label(label));
-        labels |= codes.labels;
-        rest = sets::without(rest, label);
+        let label = Label(sets::least(rest));
+        let resumed = read(kept, label);
+        labels |= resumed.labels;
+        rest = sets::without(rest, label.0);
     }
     labels
 }
 
-// A statement that ends at once: nothing, an emit, and what is no statement.
+// A statement that ends at once: nothing and an emit; and where no node is left.
 fn of_nothing(next: usize) -> Summary
     ensures { λ r. ⌜ outlineOf r ≡ outline justEnded 0 0 next ⌝ }
 {
@@ -114,7 +120,7 @@ fn of_nothing(next: usize) -> Summary
     }
 }
 
-fn of_pause(label: Label, next: usize, kept: &mut [u64; 128]) -> Summary
+fn of_pause(label: Label, next: usize, kept: &mut [u64; KEPT]) -> Summary
     requires { ⌜ (label .0 < 64) × (length (now kept) ≡ 128) ⌝ }
     ensures { λ r. ⌜ outlineOf r ≡ outline (justAt (label .0)) (only (label .0)) (only (label .0)) next ⌝ }
     ensures { λ r. ⌜ Changed (only (label .0)) (λ K. justEnded) (now (kept .entry)) (now (kept .exit)) ⌝ }
@@ -166,10 +172,10 @@ fn of_present(p: Summary, q: Summary) -> Summary
     }
 }
 
-fn of_sequence(p: Summary, q: Summary, kept: &mut [u64; 128]) -> Summary
+fn of_sequence(p: Summary, q: Summary, kept: &mut [u64; KEPT]) -> Summary
     requires { ⌜ length (now kept) ≡ 128 ⌝ }
     ensures { λ r. ⌜ outlineOf r ≡ sequenceOutline (outlineOf p) (outlineOf q) ⌝ }
-    ensures { λ r. ⌜ Changed (p .ending) (λ K. join (minusZero K) (codesOf (q .start))) (now (kept .entry)) (now (kept .exit)) ⌝ }
+    ensures { λ r. ⌜ Follows (p .ending) (codesOf (q .start)) (now (kept .entry)) (now (kept .exit)) ⌝ }
 {
     let p_start = p.start;
     let q_start = q.start;
@@ -196,10 +202,10 @@ fn of_parallel(p: Summary, q: Summary) -> Summary
 }
 
 // A loop goes on where its body could end, and so never ends itself.
-fn of_loop(p: Summary, kept: &mut [u64; 128]) -> Summary
+fn of_loop(p: Summary, kept: &mut [u64; KEPT]) -> Summary
     requires { ⌜ length (now kept) ≡ 128 ⌝ }
     ensures { λ r. ⌜ outlineOf r ≡ outline (minusZero (codesOf (p .start))) (p .pauses) 0 (p .next) ⌝ }
-    ensures { λ r. ⌜ Changed (p .ending) (λ K. join (minusZero K) (minusZero (codesOf (p .start)))) (now (kept .entry)) (now (kept .exit)) ⌝ }
+    ensures { λ r. ⌜ Follows (p .ending) (minusZero (codesOf (p .start))) (now (kept .entry)) (now (kept .exit)) ⌝ }
 {
     let p_start = p.start;
     let start = codes::minus_zero(p_start);
@@ -212,10 +218,10 @@ fn of_loop(p: Summary, kept: &mut [u64; 128]) -> Summary
     }
 }
 
-fn of_try(p: Summary, kept: &mut [u64; 128]) -> Summary
+fn of_try(p: Summary, kept: &mut [u64; KEPT]) -> Summary
     requires { ⌜ length (now kept) ≡ 128 ⌝ }
     ensures { λ r. ⌜ outlineOf r ≡ outline (throughTry (codesOf (p .start))) (p .pauses) (r .ending) (p .next) ⌝ }
-    ensures { λ r. ⌜ Lowered (p .pauses) (now (kept .entry)) (now (kept .exit)) (r .ending) ⌝ }
+    ensures { λ r. ⌜ LoweredEach (p .pauses) (now (kept .entry)) (now (kept .exit)) (r .ending) ⌝ }
 {
     let p_start = p.start;
     let ending = lower_each(kept, p.pauses);
@@ -229,31 +235,44 @@ fn of_try(p: Summary, kept: &mut [u64; 128]) -> Summary
 
 // What was found of a node's first child, noted at the node: the place after it, whether it can end where it is started, and
 // the labels from which alone it can end.
-fn noted(first: Summary, notes: &mut [u16; 1024], endings: &mut [u64; 1024], at: usize) -> Summary
+fn note_child(
+    first: Summary,
+    notes: &mut [u16; table::MOST_NODES],
+    endings: &mut [u64; table::MOST_NODES],
+    at: usize,
+) -> Summary
     requires { ⌜ (at < 1024) × (first .next ≤ 1024) ⌝ }
-    ensures { λ r. ⌜ Wrote first at r (now (notes .entry)) (now (endings .entry)) (now (notes .exit)) (now (endings .exit)) ⌝ }
+    ensures { λ r. ⌜ NotedChild first at r (now (notes .entry)) (now (endings .entry)) (now (notes .exit)) (now (endings .exit)) ⌝ }
 {
     let start = first.start;
-    notes[at] = first.next as u16 * 4 + codes::flag(start);
+    notes[at] = noted::open_note(first.next, codes::ends(start));
     endings[at] = first.ending;
     first
+}
+
+// The refused outcome, of a node of a kind above 10: a statement's next place is that of its last child, so the place beyond
+// every place spreads to the root by itself. It never comes for the nodes of an accepted table.
+fn refused() -> Summary
+    ensures { λ r. ⌜ r .next ≡ 1025 ⌝ }
+{
+    of_nothing(REFUSED)
 }
 
 // The summary of the statement at a place, down to the depth that is left. Each node is looked at once; one with children is
 // noted, for those who walk the nodes later.
 pub fn summary_at(
-    nodes: &[u16; 1024],
+    nodes: &[u16; table::MOST_NODES],
     at: usize,
     left: usize,
-    kept: &mut [u64; 128],
-    notes: &mut [u16; 1024],
-    endings: &mut [u64; 1024],
+    kept: &mut [u64; KEPT],
+    notes: &mut [u16; table::MOST_NODES],
+    endings: &mut [u64; table::MOST_NODES],
 ) -> Summary
     requires { ⌜ Summable left (now nodes) at (now kept) (now notes) (now endings) ⌝ }
     ensures { λ r. ⌜ Summarised (statementAt left (now (nodes .entry)) at) r (now (kept .entry)) (now (kept .exit)) ⌝ }
-    ensures { λ r. ⌜ Opened left (now (nodes .entry)) at (now (notes .entry)) (now (endings .entry)) (now (notes .exit)) (now (endings .exit)) ⌝ }
+    ensures { λ r. ⌜ LeavesNotes left (now (nodes .entry)) at (now (notes .entry)) (now (endings .entry)) (now (notes .exit)) (now (endings .exit)) ⌝ }
 {
-    if left == 0 || 1024 <= at {
+    if left == 0 || table::MOST_NODES <= at {
         return of_nothing(at);
     }
     let node = nodes[at];
@@ -261,42 +280,42 @@ pub fn summary_at(
     let next = at + 1;
     let below = left - 1;
     match table::kind_of(node) {
-        0 => of_nothing(next),
-        1 => of_pause(Label(operand), next, kept),
-        2 => of_gotopause(Label(operand), next),
-        3 => of_nothing(next),
-        4 => of_exit(Level(operand), next),
-        5 => {
+        table::NOTHING => of_nothing(next),
+        table::PAUSE => of_pause(Label(operand), next, kept),
+        table::GOTOPAUSE => of_gotopause(Label(operand), next),
+        table::EMIT => of_nothing(next),
+        table::EXIT => of_exit(Level(operand), next),
+        table::SIGNAL => {
             let p = summary_at(nodes, next, below, kept, notes, endings);
-            noted(p, notes, endings, at)
+            note_child(p, notes, endings, at)
         }
-        6 => {
+        table::PRESENT => {
             let p = summary_at(nodes, next, below, kept, notes, endings);
-            let first = noted(p, notes, endings, at);
+            let first = note_child(p, notes, endings, at);
             let q = summary_at(nodes, first.next, below, kept, notes, endings);
             of_present(first, q)
         }
-        7 => {
+        table::SEQUENCE => {
             let p = summary_at(nodes, next, below, kept, notes, endings);
-            let first = noted(p, notes, endings, at);
+            let first = note_child(p, notes, endings, at);
             let q = summary_at(nodes, first.next, below, kept, notes, endings);
             of_sequence(first, q, kept)
         }
-        8 => {
+        table::PARALLEL => {
             let p = summary_at(nodes, next, below, kept, notes, endings);
-            let first = noted(p, notes, endings, at);
+            let first = note_child(p, notes, endings, at);
             let q = summary_at(nodes, first.next, below, kept, notes, endings);
             of_parallel(first, q)
         }
-        9 => {
+        table::LOOP => {
             let p = summary_at(nodes, next, below, kept, notes, endings);
-            of_loop(noted(p, notes, endings, at), kept)
+            of_loop(note_child(p, notes, endings, at), kept)
         }
-        10 => {
+        table::TRY => {
             let p = summary_at(nodes, next, below, kept, notes, endings);
-            of_try(noted(p, notes, endings, at), kept)
+            of_try(note_child(p, notes, endings, at), kept)
         }
-        11..=15 => of_nothing(next),
-        _ => of_nothing(next),
+        11..=15 => refused(),
+        _ => refused(),
     }
 }

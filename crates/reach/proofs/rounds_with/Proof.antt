@@ -8,10 +8,9 @@ use Rattle.sets.specs.Set.{_union_}
 use Rattle.sets.proofs.Counts.{count}
 use Rattle.esterel.specs.Codes.{Codes, labels}
 use Rattle.table.specs.Reading.{deepest}
-use Rattle.table.specs.inner.Places.{statementAt}
+use Rattle.table.specs.inner.Places.{statementAt, statementOf}
 use Rattle.reach.specs.inner.CodeSets.{codesOf}
-use Rattle.reach.specs.inner.Rounds.{statementOf}
-use Rattle.reach.proofs.Rounds.{Going, few-rounds, none-yet, goes-on, falls, rests}
+use Rattle.reach.proofs.Rounds.{Going, few-rounds, none-yet, goes-on, falls, rests, not-refused}
 use Rattle.reach.proofs.rounds_with.Statement.{statement}
 use Rattle.reach.proofs.rounds_with.Tie as tie
 
@@ -24,38 +23,61 @@ abbrev μ-loop : tie.MeasureT-loop
 summary-at-requires : tie.Need-summary-at-requires Inv-loop μ-loop
 summary-at-requires c κs =
     let (r, k) = c .before .before .before .pre in
-    record { tries = 0; valid = r .sound .valid; all = r .sound .all; room = k; notes-are = r .notes-are; endings-are = r .endings-are }
+    let l = r .loaded in
+    record { tries = 0; valid = l .valid; all = l .all; known = l .known; room = k; notes-are = r .notes-are; endings-are = r .endings-are }
+
+returns : tie.Need-returns Inv-loop μ-loop
+returns c =
+    let m = c .before .before in
+    let b = m .before .before .before .before in
+    absurd (not-refused (b .args .nodes .now) (m .summary-at .result) (b .args .kept .now) _ (b .pre .0 .loaded) (m .summary-at .ensures .0) (c .if1 .taken))
 
 loop-holds : tie.Need-loop-holds Inv-loop μ-loop
 unfolding labels codesOf
-loop-holds c = none-yet (statementOf (c .before .before .before .before .before .args .nodes .now)) _ (ap (λ (K : Codes). K .pausing) (c .before .summary-at .ensures .0 .start))
+loop-holds c =
+    let m = c .before .before .before in
+    let b = m .before .before .before .before in
+    none-yet (statementOf (b .args .nodes .now)) _ (ap (λ (K : Codes). K .pausing) (m .summary-at .ensures .0 .start))
 
 add-rounds : tie.Need-add-rounds Inv-loop μ-loop
-add-rounds c = omega (arith, few-rounds (statementOf (c .before .before .before .before .before .before .args .nodes .now)) (c .loop .labels) (c .loop .set) (c .loop .rounds) (c .loop .inv))
+add-rounds c =
+    let m = c .before .before .before .before in
+    let b = m .before .before .before .before in
+    omega (arith, few-rounds (statementOf (b .args .nodes .now)) (c .loop .labels) (c .loop .set) (c .loop .rounds) (c .loop .inv))
 
 labels-from-requires : tie.Need-labels-from-requires Inv-loop μ-loop
 labels-from-requires c κs = tt
 
 loop-less : tie.Need-loop-less Inv-loop μ-loop
 loop-less c =
-    let l = c .before .before .before .loop in
-    falls (statementAt deepest (c .before .before .before .before .before .before .before .before .before .args .nodes .now) 0) (c .before .before .before .before .before .summary-at .result) (c .before .before .before .before .before .before .before .before .before .args .kept .now) _ (c .before .before .before .before .before .summary-at .ensures .0) (search needs) (l .labels) (l .set) (l .rounds) (l .inv) (c .before .before .if1 .left)
+    let h = c .before .before .before in
+    let l = h .loop in
+    let m = h .before .before .before .before in
+    let b = m .before .before .before .before in
+    falls (statementAt deepest (b .args .nodes .now) 0) (m .summary-at .result) (b .args .kept .now) _ (m .summary-at .ensures .0) (search needs)
+    (l .labels) (l .set) (l .rounds) (l .inv) (c .before .before .if2 .left)
 
 loop-again : tie.Need-loop-again Inv-loop μ-loop
 unfolding _union_
 loop-again c =
-    let l = c .before .before .before .loop in
-    goes-on (statementAt deepest (c .before .before .before .before .before .before .before .before .before .args .nodes .now) 0) (c .before .before .before .before .before .summary-at .result) (c .before .before .before .before .before .before .before .before .before .args .kept .now) _ (c .before .before .before .before .before .summary-at .ensures .0) (search needs) (l .labels) (l .set) (l .rounds) (l .inv) (c .before .before .if1 .left)
-    (c .labels-from .result) (c .labels-from .ensures)
+    let h = c .before .before .before in
+    let l = h .loop in
+    let m = h .before .before .before .before in
+    let b = m .before .before .before .before in
+    goes-on (statementAt deepest (b .args .nodes .now) 0) (m .summary-at .result) (b .args .kept .now) _ (m .summary-at .ensures .0) (search needs)
+    (l .labels) (l .set) (l .rounds) (l .inv) (c .before .before .if2 .left) (c .labels-from .result) (c .labels-from .ensures)
 
-returns : tie.Need-returns Inv-loop μ-loop
-returns c =
+returns-2 : tie.Need-returns-2 Inv-loop μ-loop
+returns-2 c =
     let l = c .before .loop in
+    let m = c .before .before .before .before .before in
+    let b = m .before .before .before .before in
+    let (found, notes) = m .summary-at .ensures in
     record {
-      reaches = rests (c .before .before .before .before .before .before .before .args .nodes .now) (c .before .before .before .summary-at .result) (c .before .before .before .before .before .before .before .args .kept .now) _ (c .before .before .before .summary-at .ensures .0) (search needs) (l .labels) (l .set) (l .rounds) (l .inv) (c .if1 .taken);
-      size = c .before .before .before .summary-at .ensures .1 .notes-from .size ∙ c .before .before .before .before .before .before .before .pre .0 .notes-are;
-      noted = c .before .before .before .summary-at .ensures .1 .noted;
+      reaches = rests (b .args .nodes .now) (m .summary-at .result) (b .args .kept .now) _ found (search needs) (l .labels) (l .set) (l .rounds) (l .inv) (c .if2 .taken);
+      size = notes .notes-from .size ∙ b .pre .0 .notes-are;
+      noted = notes .noted;
     }
 
 pub rounds-with-spec : {M : Type 1} → statement M
-rounds-with-spec = tie.close (tie.spec Inv-loop μ-loop summary-at-requires loop-holds add-rounds labels-from-requires loop-less loop-again returns)
+rounds-with-spec = tie.close (tie.spec Inv-loop μ-loop summary-at-requires returns loop-holds add-rounds labels-from-requires loop-less loop-again returns-2)

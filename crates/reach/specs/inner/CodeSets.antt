@@ -1,14 +1,18 @@
 -- Sets of completion codes as a program holds them, and the sets of esterel that they stand for.
-use Prim.Native.Nat.{ℕ, _*_, _/_}
+use Prim.Native.Nat.{ℕ, _-_, _*_, _/_}
 use mathlib.Core.Bool.{Bool, true, false, cond}
 use Rattle.sets.specs.Set.{has}
 use Rattle.esterel.specs.Codes.{Codes, none, join, minusZero}
 use Rattle.reach.specs.declared.codes.CodeSet.{CodeSet}
 
--- bit 0 of `exits` says that 0 is in the set; bit d, from 1 to 63, stands for code d + 1, that of an exit of level d
--- (code 64 does not fit 64 bits at its own place)
+-- the place of a code in the word `codes`: bit 0 for code 0, bit k − 1 for a code k of 2 and up, so that codes 0 to 64 fit.
+-- Code 1 has none: it has the labels
+abbrev pub placeOf : ℕ → ℕ
+placeOf k = k - 1
+
+-- what the two words stand for: above bit 0 each code is one place below its own number
 unfoldable pub codesOf : CodeSet → Codes
-codesOf w = record { ends = has (w .exits) 0; pausing = w .labels; higher = w .exits / 2 * 4 }
+codesOf w = record { ends = has (w .codes) (placeOf 0); pausing = w .labels; higher = w .codes / 2 * 4 }
 
 -- 1 for true
 unfoldable pub flagOf : Bool → ℕ

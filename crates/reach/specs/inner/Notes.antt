@@ -27,42 +27,60 @@ Noted Own nodes (suc left) at =
     (Own at (kindOfNode (getD nodes at 0)) (statementAt left nodes (at + 1)))
     (Noted Own nodes left (at + 1)) (Noted Own nodes left (statementAt left nodes (at + 1) .next))
 
--- ---- Before R is known
--- of a node's first child: the place after it, and whether it can end where it is started; and beside the note the labels
--- from which alone it can end
-unfoldable pub openNote : Placed → ℕ
-openNote p = p .next * 4 + flagOf (s (p .statement) .ends)
-
-abbrev pub Opens : List ℕ → List ℕ → ℕ → ℕ → Placed → Type 0
-Opens notes endings at kind p = (getD notes at 0 ≡ openNote p) × EndsAlone (getD endings at 0) (p .statement)
-
--- what was found of a first child was noted at a node
-pub record Wrote (first : Summary) (at : ℕ) (r : Summary) (notes endings notes′ endings′ : List ℕ) : Type 0 where
-  pub same : r ≡ first
-  pub note : notes′ ≡ set notes at (first .next * 4 + flagOf (codesOf (first .start) .ends))
-  pub ending : endings′ ≡ set endings at (first .ending)
-
--- no place before `at` was written
-pub record From (at : ℕ) (xs ys : List ℕ) : Type 0 where
-  pub size : length ys ≡ length xs
-  pub low : (i : ℕ) → i < at → getD ys i 0 ≡ getD xs i 0
-
--- a pass over the statement at a place, with the notes before and after it
-pub record Opened (left : ℕ) (nodes : List ℕ) (at : ℕ) (notes endings notes′ endings′ : List ℕ) : Type 0 where
-  pub noted : Noted (Opens notes′ endings′) nodes left at
-  pub notes-from : From at notes notes′
-  pub endings-from : From at endings endings′
-
--- ---- For R
--- of a node's first child: the place after it, and whether it can end, resumed and started
-unfoldable pub noteOf : ℕ → Placed → ℕ
-noteOf R p = p .next * 4 + flagOf (d R (p .statement) .ends) * 2 + flagOf (s (p .statement) .ends)
+-- ---- A note: a place and two flags
+-- the place after a node's first or only child; then a flag of that child where it is only resumed, and one where it may be
+-- started
+unfoldable pub noteWith : ℕ → Bool → Bool → ℕ
+noteWith place resumed started = place * 4 + flagOf resumed * 2 + flagOf started
 
 -- what a note says: the place of the second child
 unfoldable pub secondOf : ℕ → ℕ
 secondOf note = note / 4
 
--- and whether the first or only child can end, where it may be started and where it is only resumed
+-- whether the child can end, where it may be started and where it is only resumed
 unfoldable pub endsOf : ℕ → Bool → Bool
 endsOf note true = has note 1 || has note 0
 endsOf note false = has note 1
+
+-- and of a try that trimming has marked, whether it is kept
+unfoldable pub keptOf : ℕ → Bool → Bool
+keptOf note true = has note 0
+keptOf note false = has note 1
+
+-- a note with another flag where the child is resumed, and with two others
+unfoldable pub withResumed : ℕ → Bool → ℕ
+withResumed note resumed = noteWith (secondOf note) resumed (has note 0)
+
+unfoldable pub withKept : ℕ → Bool → Bool → ℕ
+withKept note resumed started = noteWith (secondOf note) resumed started
+
+-- ---- Before R is known
+-- of a node's first child: the place after it, and whether it can end where it is started; and beside the note the labels
+-- from which alone it can end
+unfoldable pub openNote : Placed → ℕ
+openNote p = noteWith (p .next) false (s (p .statement) .ends)
+
+abbrev pub Opens : List ℕ → List ℕ → ℕ → ℕ → Placed → Type 0
+Opens notes endings at kind p = (getD notes at 0 ≡ openNote p) × EndsAlone (getD endings at 0) (p .statement)
+
+-- what was found of a first child was noted at a node
+pub record NotedChild (first : Summary) (at : ℕ) (r : Summary) (notes endings notes′ endings′ : List ℕ) : Type 0 where
+  pub same : r ≡ first
+  pub note : notes′ ≡ set notes at (noteWith (first .next) false (codesOf (first .start) .ends))
+  pub ending : endings′ ≡ set endings at (first .ending)
+
+-- no place before `at` was written
+pub record WritesFrom (at : ℕ) (xs ys : List ℕ) : Type 0 where
+  pub size : length ys ≡ length xs
+  pub low : (i : ℕ) → i < at → getD ys i 0 ≡ getD xs i 0
+
+-- a pass over the statement at a place leaves its notes, with what stood there before and after it
+pub record LeavesNotes (left : ℕ) (nodes : List ℕ) (at : ℕ) (notes endings notes′ endings′ : List ℕ) : Type 0 where
+  pub noted : Noted (Opens notes′ endings′) nodes left at
+  pub notes-from : WritesFrom at notes notes′
+  pub endings-from : WritesFrom at endings endings′
+
+-- ---- For R
+-- of a node's first child: the place after it, and whether it can end, resumed and started
+unfoldable pub noteOf : ℕ → Placed → ℕ
+noteOf R p = noteWith (p .next) (d R (p .statement) .ends) (s (p .statement) .ends)

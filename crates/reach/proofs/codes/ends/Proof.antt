@@ -6,7 +6,7 @@ use Rattle.reach.proofs.codes.ends.Tie as tie
 
 returns : tie.Need-returns
 unfolding codesOf
-returns c = has-low (c .before .args .a .exits)
+returns c = has-low (c .before .args .a .codes)
 
 pub ends-spec : {M : Type 1} → statement M
 ends-spec = tie.close (tie.spec returns)

@@ -3,7 +3,7 @@ use mathlib.Core.Path.{sym, ap, _∙_}
 use Prim.Native.Nat.{ℕ}
 use Rattle.reach.specs.inner.CodeSets.{codesOf}
 use borrow.Author.Needs.{needs}
-use Rattle.reach.proofs.CodeSets.{words, all-kept, zero-dropped, exits-kept}
+use Rattle.reach.proofs.CodeSets.{words, all-kept, zero-dropped, higher-kept}
 use Rattle.reach.proofs.codes.no_lower_than.Statement.{statement}
 use Rattle.reach.proofs.codes.no_lower_than.Tie as tie
 
@@ -29,7 +29,7 @@ returns-3 : tie.Need-returns-3
 returns-3 c =
     let e = c .before .before .before .before in
     ap (λ (x : ℕ). codesOf (words 0 x)) (c .not-below .ensures)
-    ∙ exits-kept (e .before .args .a) (e .before .args .b) (sym (e .ends .ensures) ∙ c .before .before .before .if1 .left) (c .before .if2 .left)
+    ∙ higher-kept (e .before .args .a) (e .before .args .b) (sym (e .ends .ensures) ∙ c .before .before .before .if1 .left) (c .before .if2 .left)
 
 pub no-lower-than-spec : {M : Type 1} → statement M
 no-lower-than-spec = tie.close (tie.spec ends-requires returns minus-zero-requires returns-2 not-below-requires returns-3)
