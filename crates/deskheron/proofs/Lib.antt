@@ -1,3 +1,4 @@
 pub mod Groups
 pub mod Demand
 pub mod Outside
+pub mod Entered

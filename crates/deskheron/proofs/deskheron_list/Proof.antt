@@ -1,8 +1,6 @@
 -- `deskheron::deskheron_list` meets its contract, by cases of the answer of list.
-use mathlib.Core.Path.{sym, ap, _∙_}
-use Rattle.table.specs.Outcomes.{Outcome, numberOf, cellAfter}
-use Rattle.list.specs.Answers.{answerOutcome}
 use borrow.Author.Needs.{needs}
+use Rattle.deskheron.proofs.Entered.{refused-entered, listed-entered}
 use Rattle.deskheron.proofs.deskheron_list.Statement.{statement}
 use Rattle.deskheron.proofs.deskheron_list.Tie as tie
 
@@ -31,20 +29,9 @@ same-length-3 : tie.Need-same-length-3
 same-length-3 c = search needs
 
 returns : tie.Need-returns
-unfolding cellAfter answerOutcome
 returns c =
     let k = c .before .before .before .before .before .before in
-    let d = k .before .before .before in
-    let given = d .list-bytes .ensures in
-    let a = d .before .before .before .before in
-    let e = ap answerOutcome (sym (c .before .enum-told .given .1)) ∙ given .answer in
-    record {
-      number = c .refusal .ensures ∙ ap numberOf (given .answer);
-      signals = given .signals;
-      codes = given .codes;
-      labels = given .labels;
-      counted = ap (λ (z : Outcome). cellAfter z 0 (a .before .before .before .before .args .count .now)) e;
-    }
+    refused-entered (k .before .before .before .list-bytes .ensures) (c .before .enum-told .given .1) (c .refusal .ensures)
 
 same-length-4 : tie.Need-same-length-4
 same-length-4 c = search needs
@@ -56,20 +43,9 @@ same-length-6 : tie.Need-same-length-6
 same-length-6 c = search needs
 
 returns-2 : tie.Need-returns-2
-unfolding numberOf cellAfter answerOutcome
 returns-2 c =
     let k = c .before .before .before .before .before .before in
-    let d = k .before .before .before in
-    let given = d .list-bytes .ensures in
-    let a = d .before .before .before .before in
-    let e = ap answerOutcome (sym (c .before .answer .given .1)) ∙ given .answer in
-    record {
-      number = ap numberOf e;
-      signals = given .signals;
-      codes = given .codes;
-      labels = given .labels;
-      counted = ap (λ (z : Outcome). cellAfter z 0 (a .before .before .before .before .args .count .now)) e;
-    }
+    listed-entered (k .before .before .before .list-bytes .ensures) (c .before .answer .given .1)
 
 pub deskheron-list-spec : {M : Type 1} → statement M
 deskheron-list-spec =
