@@ -459,12 +459,12 @@ pub trim-keeps : (R : ℕ) (b : Bool) (p : Statement) (x : State) → LevelsFrom
     → (E O k L : ℕ) → Derives p x E O k L ↔ Derives (trim R b p) x E O k L
 trim-keeps R b p x w v E O k L = let f = same R p b x w v in (f .0 E O k L, f .1 E O k L)
 
--- Lemma 11: "Whatever R", what a statement does when started is kept with the flag 1
+-- Lemma 11, whatever R: what a statement does when started is kept with the flag 1
 pub trim-keeps-start : (R : ℕ) (p : Statement) → LevelsFromOne p
     → (E O k L : ℕ) → Derives p start E O k L ↔ Derives (trim R true p) start E O k L
 trim-keeps-start R p w = trim-keeps R true p start w refl
 
--- Lemma 12: "Whatever b", what it does when resumed is kept in every state whose pause labels are in R
+-- Lemma 12, whatever b: what it does when resumed is kept in every state whose pause labels are in R
 pub trim-keeps-resumed : (R : ℕ) (b : Bool) (p : Statement) (X : ℕ) → LevelsFromOne p → Within (X intersect pauses p) R
     → (E O k L : ℕ) → Derives p (resumed X) E O k L ↔ Derives (trim R b p) (resumed X) E O k L
 trim-keeps-resumed R b p X w v =
