@@ -13,7 +13,7 @@ use Rattle.table.specs.Reading.{Reading, read, withOne, withTwo, readKin
 use Rattle.table.specs.Writing.{node, nodes}
 use Rattle.table.proofs.Nodes.{depth-positive}
 use Rattle.table.proofs.Faults as sound
-use Rattle.table.proofs.Faults.{Sound, fault-sound, sound-fault}
+use Rattle.table.proofs.Faults.{Faultless, fault-none, none-fault}
 use Rattle.table.proofs.Accepted.{Child, read-kind}
 
 -- labels 1 to 63, signals 0 to 31 and levels 1 to 63: all that a node can say of its operand. A statement that stands in a
@@ -56,11 +56,11 @@ no-depth tries used x xs ys p = go (faultOf 0 tries used x) refl
     rest = readKind (kindOf (kindOfNode x)) (operandOf x) (λ tries′ used′ xs′. Reading.refused 8) tries used xs
 
     go : (w : ℕ) → faultOf 0 tries used x ≡ w → Reread 0 tries used p ys (readIf w rest)
-    go zero e = absurd (let h = fault-sound 0 tries used x e .0 in omega arith)
+    go zero e = absurd (let h = fault-none 0 tries used x e .0 in omega arith)
     go (suc w) e = refused (suc w) refl (λ f. let h = depth-positive p in let d = f .deep in omega arith)
 
 -- it has a fault, and then p does not fit, or goes by its kind
-by-kind : (left tries used k o : ℕ) (xs ys : List ℕ) (p : Statement) → o < 64 → (Fits (suc left) tries used p → Sound tries used (node k o))
+by-kind : (left tries used k o : ℕ) (xs ys : List ℕ) (p : Statement) → o < 64 → (Fits (suc left) tries used p → Faultless tries used (node k o))
     → Reread (suc left) tries used p ys (readKind (kindOf k) o (readFrom left) tries used xs)
     → Reread (suc left) tries used p ys (readFrom (suc left) tries used (node k o ∷ xs))
 unfolding readFrom readNode
@@ -68,10 +68,10 @@ by-kind left tries used k o xs ys p b s O = rw (read-kind k o (readFrom left) tr
   where
     go : (w : ℕ) → faultOf (suc left) tries used (node k o) ≡ w → Reread (suc left) tries used p ys (readIf w (readKind (kindOf k) o (readFrom left) tries used xs))
     go zero e = O
-    go (suc w) e = refused (suc w) refl (λ f. let z : 0 ≡ suc w = sym (sound-fault left tries used (node k o) (s f)) ∙ e in omega arith)
+    go (suc w) e = refused (suc w) refl (λ f. let z : 0 ≡ suc w = sym (none-fault left tries used (node k o) (s f)) ∙ e in omega arith)
 
 begins : (p : Statement) (k o : ℕ) (rest : List ℕ) → nodes p ≡ node k o ∷ rest → o < 64
-    → ((left tries used : ℕ) → Fits left tries used p → Sound tries used (node k o))
+    → ((left tries used : ℕ) → Fits left tries used p → Faultless tries used (node k o))
     → ((left tries used : ℕ) (ys : List ℕ) → Reread (suc left) tries used p ys (readKind (kindOf k) o (readFrom left) tries used (rest ++ ys)))
     → ReadBack p
 begins p k o rest e b s f zero tries used ys = rw e (no-depth tries used (node k o) (rest ++ ys) ys p)
@@ -125,7 +125,7 @@ second-fits left tries used f p q l d v h =
 
 one-child : (f : Statement → Statement) (k o : ℕ) (inside : ℕ → ℕ) (p : Statement) → nodes (f p) ≡ node k o ∷ nodes p → pauses (f p) ≡ pauses p
     → depth (f p) ≡ suc (depth p) → ((tries : ℕ) → Valid tries (f p) → Valid (inside tries) p) → o < 64
-    → ((tries used : ℕ) → Sound tries used (node k o))
+    → ((tries used : ℕ) → Faultless tries used (node k o))
     → ((child : Child) (tries used : ℕ) (xs : List ℕ) → readKind (kindOf k) o child tries used xs ≡ withOne (child (inside tries) used xs) f)
     → ReadBack p → ReadBack (f p)
 one-child f k o inside p n l d v b s r below =
@@ -137,7 +137,7 @@ one-child f k o inside p n l d v b s r below =
 two-children : (f : Statement → Statement → Statement) (k o : ℕ) (p q : Statement) → nodes (f p q) ≡ node k o ∷ (nodes p ++ nodes q)
     → pauses (f p q) ≡ pauses p union pauses q → depth (f p q) ≡ suc (max (depth p) (depth q))
     → ((tries : ℕ) → Valid tries (f p q) → Valid tries p × Valid tries q × Apart (pauses p) (pauses q)) → o < 64
-    → ((tries used : ℕ) → Sound tries used (node k o))
+    → ((tries used : ℕ) → Faultless tries used (node k o))
     → ((child : Child) (tries used : ℕ) (xs : List ℕ) → readKind (kindOf k) o child tries used xs ≡ withTwo (child tries used xs) (child tries) f)
     → ReadBack p → ReadBack q → ReadBack (f p q)
 two-children f k o p q n l d v b s r below below′ =

@@ -116,7 +116,7 @@ answer p ranged few = go (decLe (size p) 1024)
 
 -- ---- The two inverse laws
 
--- "Reading what was written for a valid statement of at most 1,024 nodes and depth 60 gives that statement"
+-- Reading what was written for a valid statement of at most 1,024 nodes and depth 60 gives that statement
 pub read-written : (p : Statement) → Allowed p → tableOf (write p) ≡ holds (size p) p
 read-written p a = go (answer p (valid-ranged 0 p (a .valid)) (omega (arith, a .few)))
   where
@@ -124,12 +124,12 @@ read-written p a = go (answer p (valid-ranged 0 p (a .valid)) (omega (arith, a .
     go (same b e) = e
     go (none no-table w e) = absurd (no-table a)
 
--- "writing what was read gives the bytes that were read"
+-- writing what was read gives the bytes that were read
 pub write-read : (t : List ℕ) (n : ℕ) (p : Statement) → Below 256 t → tableOf t ≡ holds n p → write p ≡ t
 unfolding write
 write-read t n p bytes h = let H = accepted t n p h in ap writeNodes (sym (H .nodes-are)) ∙ nodes-again t n (H .header) bytes
 
--- "So a table has exactly one statement, and a statement one table"
+-- So a table has exactly one statement, and a statement one table
 pub one-statement : (t : List ℕ) (n n′ : ℕ) (p p′ : Statement) → tableOf t ≡ holds n p → tableOf t ≡ holds n′ p′ → p ≡ p′
 one-statement t n n′ p p′ h h′ = cc
 
@@ -141,7 +141,7 @@ same-table t t′ n n′ p bytes bytes′ h h′ = sym (write-read t n p bytes h
 
 -- ---- Beyond the limits
 
--- "it never reads as another statement"
+-- it never reads as another statement
 pub never-another : (p : Statement) → Ranged p → size p < 4096 → (n : ℕ) (q : Statement) → tableOf (write p) ≡ holds n q → (q ≡ p) × (n ≡ size p) × Allowed p
 never-another p r few n q h = go (answer p r few)
   where
@@ -149,7 +149,7 @@ never-another p r few n q h = go (answer p r few)
     go (same a e) = (cc, cc, a)
     go (none no-table w e) = absurd (let z : _≡_ {A = ℕ} 0 1 = cc in omega arith)
 
--- "For a statement beyond those limits .. reading what was written is refused"
+-- For a statement beyond those limits reading what was written is refused
 pub beyond-refused : (p : Statement) → Ranged p → size p < 4096 → (Allowed p → ⊥) → (w : ℕ) × (tableOf (write p) ≡ Table.refused w)
 beyond-refused p r few no-table = go (answer p r few)
   where

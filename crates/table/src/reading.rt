@@ -7,11 +7,8 @@ use crate::kinds::EMIT;
 use crate::kinds::EXIT;
 use crate::kinds::GOTOPAUSE;
 use crate::kinds::KINDS;
-use crate::kinds::LOOP;
 use crate::kinds::NOTHING;
-use crate::kinds::PARALLEL;
 use crate::kinds::PAUSE;
-use crate::kinds::PRESENT;
 use crate::kinds::SIGNAL;
 use crate::kinds::TRY;
 use crate::kinds::kind_of;
@@ -162,6 +159,13 @@ fn field_fault(operand: u8, row: Row, left: usize) -> u8
     first_of(range, depth_fault(left))
 }
 
+// How many try statements a node adds around its children.
+fn tried(kind: u16) -> u8
+    ensures { λ r. ⌜ r ≡ cond (eqb kind 10) 1 0 ⌝ }
+{
+    if kind == TRY { 1 } else { 0 }
+}
+
 // Walks over the statement at node `at` of the first n, with all below it, inside `tries` try statements; `left` is the depth
 // that is left, that node's included. Gives the number of the refusal, or 0 with the place after the statement in `at` and
 // its labels added to `used`.
@@ -174,7 +178,7 @@ fn walk(
     used: &mut u64,
     rows: &[u32; 16],
 ) -> u8
-    requires { ⌜ (n ≤ 1024) × (length (now nodes) ≡ 1024) × (tries + left ≤ 255) × Rows (now rows) ⌝ }
+    requires { ⌜ (n ≤ 1024) × (length (now nodes) ≡ 1024) × (tries + left < 255) × Rows (now rows) ⌝ }
     ensures { λ r. ⌜ Walked n (readFrom left tries (now (used .entry)) (drop (now (at .entry)) (take n (now (nodes .entry))))) r (now (at .exit)) (now (used .exit)) ⌝ }
 {
     let here = *at;
@@ -184,44 +188,34 @@ fn walk(
     let node = nodes[here];
     let kind = kind_of(node);
     let operand = operand_of(node);
-    let fault = field_fault(operand, row_in(rows, kind), left);
+    let row = row_in(rows, kind);
+    let fault = field_fault(operand, row, left);
     *at = here + 1;
-    match kind {
-        NOTHING => fault,
+    let inside = match kind {
+        NOTHING => return fault,
         PAUSE => {
             let label = Label(operand);
             let why = first_of(fault, label_fault(label, *used));
             *used = sets::with(*used, label.0);
-            why
+            return why;
         }
-        GOTOPAUSE => fault,
-        EMIT => fault,
-        EXIT => first_of(fault, level_fault(Level(operand), tries)),
-        SIGNAL | LOOP => {
-            if fault != 0 {
-                return fault;
-            }
-            walk(nodes, n, left - 1, tries, at, used, rows)
-        }
-        PRESENT..=PARALLEL => {
-            if fault != 0 {
-                return fault;
-            }
-            let first = walk(nodes, n, left - 1, tries, at, used, rows);
-            if first != 0 {
-                return first;
-            }
-            walk(nodes, n, left - 1, tries, at, used, rows)
-        }
-        TRY => {
-            if fault != 0 {
-                return fault;
-            }
-            walk(nodes, n, left - 1, tries + 1, at, used, rows)
-        }
-        11..=15 => 6,
-        _ => 6,
+        GOTOPAUSE..=EMIT => return fault,
+        EXIT => return first_of(fault, level_fault(Level(operand), tries)),
+        SIGNAL..=TRY => tries + tried(kind),
+        11..=15 => return 6,
+        _ => return 6,
+    };
+    if fault != 0 {
+        return fault;
     }
+    if row.children == 1 {
+        return walk(nodes, n, left - 1, inside, at, used, rows);
+    }
+    let first = walk(nodes, n, left - 1, inside, at, used, rows);
+    if first != 0 {
+        return first;
+    }
+    walk(nodes, n, left - 1, inside, at, used, rows)
 }
 
 // Tests 6 to 11, on the first n nodes.
