@@ -63,7 +63,12 @@ list-L (resumed X) E = refl
 
 -- "A to L are shown together from the definitions by one theorem over the table of them"
 pub cases-hold : AllHold cases
-unfolding AllHold MeetsAll Meets cases caseA caseB caseC caseD caseE caseF caseG caseH caseI caseJ caseK caseL setOf codesWith reactionOf has only _union_ _intersect_ _minus_ pauses pauseCount size codeOf through labels none justEnded justAt justCode join minusZero throughTry hasLow notBelow noLowerThan maximum s d nextR reachFrom reach isNothing joinParts names endsAt shiftLevel shiftExits canEnd trimLoop trimSignal trimPresent trimTry trim trimmed reachedTogether before insert sorted each hide follow pair together going caught list kinds kindOf rowOf bits numberAfter number bitsOf bytesFrom padded bytesOf lengthOf editionOf countOf paddingOf headerOf nodesFrom nodesOf faultOf readKind readNode readFrom wholeOf tableAfter tableOf nodes nodeBits writeNodes write
+unfolding AllHold MeetsAll Meets cases caseA caseB caseC caseD caseE caseF caseG caseH caseI caseJ caseK caseL setOf codesWith reactionOf has only
+    _union_ _intersect_ _minus_ pauses pauseCount size codeOf through labels none justEnded justAt justCode join minusZero throughTry hasLow notBelow
+    noLowerThan maximum s d nextR reachFrom reach isNothing joinParts names endsAt shiftLevel shiftExits canEnd trimLoop trimSignal trimPresent
+    trimTry trim trimmed reachedTogether before insert sorted each hide follow pair together going caught list kinds kindOf rowOf bits numberAfter
+    number bitsOf bytesFrom padded bytesOf lengthOf editionOf countOf paddingOf headerOf nodesFrom nodesOf faultOf readKind readNode readFrom wholeOf
+    tableAfter tableOf nodes nodeBits writeNodes write
 cases-hold =
     ((refl, refl) also refl also refl also tt)
     also ((refl, refl) also refl also tt)
