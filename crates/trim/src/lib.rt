@@ -17,6 +17,7 @@ use work::Part;
 ghost use mathlib.Core.Path.{_≡_};
 ghost use lib.ListN.{length};
 ghost use Rattle.esterel.specs.Trimming.{trimmed};
+ghost use Rattle.table.specs.Outcomes.{numberOf};
 ghost use Rattle.table.specs.inner.Places.{statementOf, Known, Loaded};
 ghost use Rattle.trim.specs.Answers.{trimmedOutcome, trimOf, bufferOf};
 ghost use Rattle.trim.specs.inner.Root.{Lent, LaidOut, Fields, Finished};
@@ -42,6 +43,16 @@ pub struct Written {
 pub enum Trimmed {
     Refused(u8),
     Accepted(Written),
+}
+
+// The number of an answer of trim: the refusal, 0 where the table is accepted.
+pub fn refusal(answer: Trimmed) -> u8
+    ensures { λ r. ⌜ r ≡ numberOf (trimmedOutcome answer) ⌝ }
+{
+    match answer {
+        Trimmed::Refused(why) => why,
+        Trimmed::Accepted(_) => 0,
+    }
 }
 
 // Trims the statement that the nodes hold, to the end of the work area.
