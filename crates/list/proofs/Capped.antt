@@ -20,7 +20,7 @@ use Rattle.esterel.proofs.Order.{append-left, append-right, sorted-in, sorted-o
 use Rattle.esterel.proofs.Listing.{Chain, follow-out, follow-left, follow-right, going-in, going-out, together-out, listed-out, list-rising, split}
 use Rattle.esterel.proofs.Needed.{crowded-iff, crowded-step}
 use Rattle.esterel.proofs.Resuming.{derives-apart}
-use Rattle.area.specs.Area.{cap, collect}
+use Rattle.area.specs.inner.Area.{cap, collect}
 use Rattle.list.specs.inner.Capped.{Capped, changeIn, joinIn, unionIn, followIn, besideIn, capped}
 
 -- none where b, else the list

@@ -15,7 +15,7 @@ use Rattle.esterel.proofs.Listing.{listed-out}
 use Rattle.esterel.proofs.Emitting.{emitted-fits}
 use Rattle.table.specs.Reading.{Table}
 use Rattle.table.specs.Reading as table
-use Rattle.area.specs.Area.{packed, row, rows}
+use Rattle.area.specs.inner.Area.{packed, row, rows}
 use Rattle.area.proofs.Rows.{rows-length, rows-mem}
 use Rattle.list.specs.declared.Answer.{Answer}
 use Rattle.list.specs.declared.Answer.the-variants as answer

@@ -10,7 +10,7 @@ use native.Mathlib.Numerals.{add-one}
 use lib.ListN.{length, getD, set, drop, length-set, length-append, length-drop, length-map, List·getD-append}
 use lib.Seq.{getD-set-same, getD-set-other, getD-append-add, getD-drop, ext-getD}
 use Rattle.esterel.specs.Reactions.{Reaction}
-use Rattle.area.specs.Area.{packed, row, rows}
+use Rattle.area.specs.inner.Area.{packed, row, rows}
 use Rattle.area.proofs.Rows.{rows-length}
 use Rattle.list.specs.Buffers.{emittedOf, codesOf, reachedOf, front, bytes, spread}
 use Rattle.list.specs.inner.Finding.{Spelt}

@@ -15,8 +15,8 @@ use Rattle.esterel.specs.Listing.{Rising, hide, follow, together, going, caught
 use Rattle.area.specs.declared.Change.{Change}
 use Rattle.area.specs.declared.Change.the-variants.{Hide, Going, Caught}
 use Rattle.area.specs.declared.Pairing.the-variants.{Sequence, Parallel}
-use Rattle.area.specs.Rules.{changed, change, joined as joined-one, joinedAll, pairs, product}
-use Rattle.area.specs.Area.{rows, Made, Altered, Beside, Merged}
+use Rattle.area.specs.inner.Rules.{changed, change, joined as joined-one, joinedAll, pairs, product}
+use Rattle.area.specs.inner.Area.{rows, Made, Altered, Beside, Merged}
 use Rattle.area.proofs.Rows.{rows-agree}
 use Rattle.area.proofs.Made.{made-as, made-need, made-there}
 use Rattle.list.specs.inner.Capped.{Capped, changeIn, joinIn, followIn}

@@ -24,7 +24,7 @@ use Rattle.table.specs.inner.Places.{Placed, placed}
 use Rattle.table.proofs.Nodes.{kind-node, operand-node, length-nodes}
 use Rattle.table.proofs.Accepted.{accepted, check-refused}
 use Rattle.table.proofs.Loading.{load-accepted, placed-loaded}
-use Rattle.area.specs.Area.{rows, Made}
+use Rattle.area.specs.inner.Area.{rows, Made}
 use Rattle.area.proofs.Rows.{rows-length}
 use Rattle.list.specs.declared.Answer.{Answer}
 use Rattle.list.specs.declared.Answer.the-variants as answer

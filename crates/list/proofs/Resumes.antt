@@ -20,8 +20,8 @@ use Rattle.table.specs.Reading.{kindOfNode, operandOf}
 use Rattle.table.specs.inner.Places.{Placed, placed}
 use Rattle.area.specs.declared.Change.the-variants.{Going}
 use Rattle.area.specs.declared.Pairing.the-variants.{Parallel}
-use Rattle.area.specs.Rules.{change, product}
-use Rattle.area.specs.Area.{packed, Made}
+use Rattle.area.specs.inner.Rules.{change, product}
+use Rattle.area.specs.inner.Area.{packed, Made}
 use Rattle.area.proofs.Made.{made-as, made-need, made-empty}
 use Rattle.list.specs.inner.Capped.{Capped, changeIn, joinIn, unionIn, followIn, besideIn, capped}
 use Rattle.list.specs.inner.Notes.{placeAt, partAt, PausesFrom, Ready, Resumable}

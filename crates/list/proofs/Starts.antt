@@ -15,8 +15,8 @@ use Rattle.table.specs.Reading.{kindOfNode, operandOf}
 use Rattle.table.specs.inner.Places.{Placed, placed}
 use Rattle.area.specs.declared.Change.the-variants.{Hide, Going, Caught}
 use Rattle.area.specs.declared.Pairing.the-variants.{Parallel}
-use Rattle.area.specs.Rules.{change, product}
-use Rattle.area.specs.Area.{packed, Made}
+use Rattle.area.specs.inner.Rules.{change, product}
+use Rattle.area.specs.inner.Area.{packed, Made}
 use Rattle.sets.proofs.Words.{only-word}
 use Rattle.area.proofs.Rows.{packed-made}
 use Rattle.area.proofs.Made.{made-as, made-need, made-empty}

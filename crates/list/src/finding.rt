@@ -9,7 +9,7 @@ ghost use Prim.Native.Nat.{_+_, _*_, _≤_};
 ghost use lib.ListN.{length};
 ghost use Rattle.table.specs.Reading.{tableOf};
 ghost use Rattle.table.specs.inner.Places.{statementAt};
-ghost use Rattle.area.specs.Area.{Made};
+ghost use Rattle.area.specs.inner.Area.{Made};
 ghost use Rattle.list.specs.inner.Capped.{capped};
 ghost use Rattle.list.specs.inner.Notes.{Sound, Resumable, Copied};
 ghost use Rattle.list.specs.Answers.{stateOf, reactionsOf, foundIn};

@@ -4,7 +4,7 @@ ghost use mathlib.Core.Path.{_≡_};
 ghost use mathlib.Core.List.{map};
 ghost use Prim.Native.Nat.{_+_, _*_, _/_, _≤_, _<_};
 ghost use lib.ListN.{length};
-ghost use Rattle.area.specs.Area.{rows};
+ghost use Rattle.area.specs.inner.Area.{rows};
 ghost use Rattle.list.specs.Answers.{found, fitted};
 ghost use Rattle.list.specs.Buffers.{emittedOf, codesOf, reachedOf, front, spread, Delivered, DeliveredBytes};
 ghost use Rattle.list.specs.inner.Finding.{Small, Spelt};

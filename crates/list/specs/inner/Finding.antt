@@ -4,7 +4,7 @@ use mathlib.Core.List.{List}
 use Prim.Native.Nat.{ℕ, _+_, _*_, _/_, _^_, _≤_, _<_}
 use lib.ListN.{length, getD}
 use Rattle.esterel.specs.Reactions.{Reaction}
-use Rattle.area.specs.Area.{rows}
+use Rattle.area.specs.inner.Area.{rows}
 use Rattle.list.specs.declared.Answer.{Answer}
 use Rattle.list.specs.Answers.{Found, found, answerOf}
 use Rattle.list.specs.Buffers.{bytes}

@@ -9,7 +9,7 @@ use lib.ListN.{length}
 use Rattle.esterel.specs.Statement.{Statement, depth}
 use Rattle.esterel.specs.Reactions.{Reaction}
 use Rattle.esterel.specs.Listing.{Rising}
-use Rattle.area.specs.Area.{rows, Made, Merged}
+use Rattle.area.specs.inner.Area.{rows, Made, Merged}
 use Rattle.list.specs.inner.Capped.{Capped, followIn}
 
 -- so many words are enough to list a statement

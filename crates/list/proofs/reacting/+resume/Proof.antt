@@ -8,7 +8,7 @@ use Rattle.esterel.specs.Statement.{depth}
 use Rattle.esterel.specs.Reactions.{resumed}
 use Rattle.area.specs.declared.Change.the-variants.{Hide, Caught}
 use Rattle.area.specs.declared.Pairing.the-variants.{Parallel}
-use Rattle.area.specs.Rules.{product}
+use Rattle.area.specs.inner.Rules.{product}
 use Rattle.area.proofs.Made.{made-need, made-cramped}
 use Rattle.list.specs.inner.Notes.{partAt}
 use Rattle.list.specs.inner.Joins.{roomFor}

@@ -1,7 +1,7 @@
 -- The invariant: i values are written.
 use Prim.Native.Nat.{_-_, _≤_}
 use mathlib.Core.List.{map}
-use Rattle.area.specs.Area.{rows}
+use Rattle.area.specs.inner.Area.{rows}
 use Rattle.list.specs.Buffers.{codesOf}
 use Rattle.list.proofs.Fills.{Filled, filled-none, filled-step, filled-all, fields-length, codes-at}
 use native.Mathlib.Omega.{arith}

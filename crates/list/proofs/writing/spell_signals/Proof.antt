@@ -2,7 +2,7 @@
 use Prim.Native.Nat.{ℕ, _*_, _-_, _≤_}
 use mathlib.Core.Path.{subst}
 use mathlib.Core.List.{map}
-use Rattle.area.specs.Area.{rows}
+use Rattle.area.specs.inner.Area.{rows}
 use Rattle.list.specs.Buffers.{spread, emittedOf}
 use Rattle.list.proofs.Fills.{Filled, filled-none, filled-all, filled-spelt, spread-length, fields-length, signals-at}
 use native.Mathlib.Omega.{arith}
