@@ -17,7 +17,9 @@ pub const MOST: usize = 64;
 
 // Returned where there is no list: it would have over MOST reactions; the area is too small for it; it was refused.
 pub const OVER: usize = 65;
+
 pub const CRAMPED: usize = 66;
+
 pub const REFUSED: usize = 67;
 
 // The words of MOST reactions and one more.

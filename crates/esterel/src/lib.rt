@@ -14,6 +14,7 @@ pub struct Code(pub u16);
 
 // The codes that are not of an exit.
 pub const ENDED: u16 = 0;
+
 pub const PAUSED: u16 = 1;
 
 // The completion code of an exit.
