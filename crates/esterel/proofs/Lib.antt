@@ -16,4 +16,5 @@ pub mod Order
 pub mod Emitting
 pub mod Listing
 pub mod Needed
+pub mod Ignored
 pub mod Indistinguishable

@@ -15,10 +15,10 @@ use Rattle.esterel.specs.Reactions as rule
 abbrev pub AgreeOn : ℕ → ℕ → ℕ → Type 0
 AgreeOn a X Y = (l : ℕ) → has a l ≡ true → has X l ≡ has Y l
 
-agree-left : (a b X Y : ℕ) → AgreeOn (a union b) X Y → AgreeOn a X Y
+pub agree-left : (a b X Y : ℕ) → AgreeOn (a union b) X Y → AgreeOn a X Y
 agree-left a b X Y f l h = f l (has-union a b l ∙ or-left _ h)
 
-agree-right : (a b X Y : ℕ) → AgreeOn (a union b) X Y → AgreeOn b X Y
+pub agree-right : (a b X Y : ℕ) → AgreeOn (a union b) X Y → AgreeOn b X Y
 agree-right a b X Y f l h = f l (has-union a b l ∙ or-right (has a l) h)
 
 agree-apart : (a X Y : ℕ) → AgreeOn a X Y → Apart X a → Apart Y a

@@ -20,7 +20,8 @@ use Rattle.esterel.proofs.Order.{append-left, append-right, sorted-in, sorted-o
 use Rattle.esterel.proofs.Listing.{Chain, follow-out, follow-left, follow-right, going-in, going-out, together-out, listed-out, list-rising, split}
 use Rattle.esterel.proofs.Needed.{crowded-iff, crowded-step}
 use Rattle.esterel.proofs.Resuming.{derives-apart}
-use Rattle.area.specs.Area.{cap, collect}
+use Rattle.area.specs.inner.Area.{cap, collect}
+use Rattle.area.proofs.Members.{cap-some}
 use Rattle.list.specs.inner.Capped.{Capped, changeIn, joinIn, unionIn, followIn, besideIn, capped}
 
 -- none where b, else the list
@@ -33,10 +34,6 @@ crowdedOf r = crowded (r .statement) (r .state) (r .assumed)
 -- ---- a list that is not crowded is short
 own-short : (p : Statement) (x : State) (E : ℕ) → crowded p x E ≡ false → length (list p x E) ≤ 64
 own-short p x E h = ltb-not 64 (length (list p x E)) (or-neither (ltb 64 (length (list p x E))) (some-of crowdedOf (needs p x E)) (sym (crowded-step p x E) ∙ h) .0)
-
-cap-short : (ts : List Reaction) → length ts ≤ 64 → cap ts ≡ some ts
-unfolding cap
-cap-short ts h = ap (λ b. answer b ts) (not-true (ltb 64 (length ts)) (λ e. absurd (let i = ltb-yes 64 (length ts) e in omega arith)))
 
 -- ---- a part without a label of the state
 pub apart-empty : (p : Statement) (X E : ℕ) → Apart X (pauses p) → list p (resumed X) E ≡ []
@@ -102,7 +99,7 @@ unfolding cap
 made L = ap (λ z. answer z L) (sym (or-false (ltb 64 (length L))))
 
 short : (L : List Reaction) → length L ≤ 64 → some L ≡ answer (ltb 64 (length L) || false) L
-short L h = sym (cap-short L h) ∙ made L
+short L h = sym (cap-some L h) ∙ made L
 
 change-one : (f : List Reaction → List Reaction) (c : Bool) (ts : List Reaction)
     → changeIn f (answer c ts) ≡ answer (ltb 64 (length (sorted (f ts))) || (c || false)) (sorted (f ts))
@@ -213,7 +210,7 @@ loop-again false e ts us L rt ru st su same = go (someEnds ts) refl e su
     short-going : length us ≤ 64 → cap (sorted (going us)) ≡ some (sorted (going us))
     short-going s =
         let i = rising-shorter us (sorted (going us)) (sorted-rising (going us)) ru (λ r m. going-out us r (sorted-out r (going us) m) .0) in
-        cap-short (sorted (going us)) (omega arith)
+        cap-some (sorted (going us)) (omega arith)
 
     into : (r : Reaction) → Chain ts (sorted (going us)) r → Listed r (going (follow ts us))
     into r (inl u) = going-in (follow ts us) r (follow-left ts us r (u .0) (u .1)) (u .1)

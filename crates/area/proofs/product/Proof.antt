@@ -1,5 +1,5 @@
 -- One reaction with one, or many with many.
-use Rattle.area.specs.Rules.{product as productOf}
+use Rattle.area.specs.inner.Rules.{product as productOf}
 use Rattle.area.proofs.Merges.{merged-large, merged-one, merged-cramped, merged-small}
 use native.Mathlib.Omega.{arith}
 use Rattle.area.proofs.product.Statement.{statement}

@@ -1,5 +1,5 @@
 -- By the answer of check; on an accepted table the nodes in front hold its statement.
-use Rattle.list.proofs.Limits.{finds-refused, loaded-sound, finds-accepted}
+use Rattle.list.proofs.Limits.{finds-refused, loaded-counted, finds-accepted}
 use borrow.Author.Needs.{needs}
 use Rattle.list.proofs.finding.find_loaded.Statement.{statement}
 use Rattle.list.proofs.finding.find_loaded.Tie as tie
@@ -27,7 +27,7 @@ cast-find-nodes c = search needs
 find-nodes-requires : tie.Need-find-nodes-requires
 find-nodes-requires c κs =
     let s = c .before .before .before .before .before .before .before .before .before in
-    (loaded-sound (s .args .table .now) (s .args .nodes .now) _ (c .before .before .before .before .before .load .result) (c .before .before .before .before .before .load .ensures) (c .before .before .before .checked .given .0 .0) (c .before .before .before .checked .given .1), s .pre)
+    (loaded-counted (s .args .table .now) (s .args .nodes .now) _ (c .before .before .before .before .before .load .result) (c .before .before .before .before .before .load .ensures) (c .before .before .before .checked .given .0 .0) (c .before .before .before .checked .given .1) (s .pre .1) (s .pre .2), s .pre .0)
 
 same-length : tie.Need-same-length
 same-length c = search needs

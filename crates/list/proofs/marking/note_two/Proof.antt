@@ -21,11 +21,20 @@ end-at-requires-2 c κs = omega arith
 nest-at-requires : tie.Need-nest-at-requires
 nest-at-requires c κs = omega arith
 
+cast-larger : tie.Need-cast-larger
+cast-larger c = omega arith
+
 nest-at-requires-2 : tie.Need-nest-at-requires-2
 nest-at-requires-2 c κs = omega arith
 
+cast-larger-2 : tie.Need-cast-larger-2
+cast-larger-2 c = omega arith
+
 larger-requires : tie.Need-larger-requires
 larger-requires c κs = omega arith
+
+cast-nest : tie.Need-cast-nest
+cast-nest c = let e = c .larger .ensures in omega arith
 
 pauses-at-requires : tie.Need-pauses-at-requires
 pauses-at-requires c κs = omega arith
@@ -61,8 +70,11 @@ note-two-spec =
     end-at-requires
     end-at-requires-2
     nest-at-requires
+    cast-larger
     nest-at-requires-2
+    cast-larger-2
     larger-requires
+    cast-nest
     pauses-at-requires
     pauses-at-requires-2
     note-requires

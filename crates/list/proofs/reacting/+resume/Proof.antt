@@ -8,14 +8,15 @@ use Rattle.esterel.specs.Statement.{depth}
 use Rattle.esterel.specs.Reactions.{resumed}
 use Rattle.area.specs.declared.Change.the-variants.{Hide, Caught}
 use Rattle.area.specs.declared.Pairing.the-variants.{Parallel}
-use Rattle.area.specs.Rules.{product}
+use Rattle.area.specs.inner.Rules.{product}
 use Rattle.area.proofs.Made.{made-need, made-cramped}
 use Rattle.list.specs.inner.Notes.{partAt}
 use Rattle.list.specs.inner.Joins.{roomFor}
-use Rattle.list.proofs.Nodes.{no-kind}
+use Rattle.table.proofs.Places.{above-ten}
+use Rattle.list.proofs.Nodes.{not-known}
 use Rattle.list.proofs.Joins.{altered, beside-top, joined, standing, followed}
 use Rattle.list.proofs.Starts.{place-few, ready-at, child-signal, child-present, child-else, child-sequence, child-then, child-parallel, child-beside, child-loop, child-try, list-signal, list-try}
-use Rattle.list.proofs.Resumes.{resumable-at, meets, meets-not, resumed-quiet, resumed-nothing, resumed-pause, resumed-gotopause, resumed-emit, resumed-exit, resumed-unused, resumed-present, resumed-sequence, resumed-right, resumed-left, resumed-both, resumed-loop}
+use Rattle.list.proofs.Resumes.{resumable-at, meets, meets-not, resumed-quiet, resumed-nothing, resumed-pause, resumed-gotopause, resumed-emit, resumed-exit, resumed-present, resumed-sequence, resumed-right, resumed-left, resumed-both, resumed-loop}
 use Prim.Native.Nat.{ℕ, _+_, _<_}
 use borrow.Fn.Kinds.{In}
 use borrow.Fn.PlainCycle.{Measures, is, falls, and}
@@ -30,7 +31,7 @@ use Rattle.list.proofs.reacting.either.Reads as either-reads
 use Rattle.list.proofs.reacting.follow.Reads as follow-reads
 use Rattle.list.proofs.reacting.follow_again.Reads as follow-again-reads
 use Rattle.list.proofs.reacting.together.Reads as together-reads
-use Rattle.list.proofs.reacting.with_number.Reads as with-number-reads
+use Rattle.sets.proofs.with.Reads as with-reads
 use Rattle.table.proofs.kind_of.Reads as kind-of-reads
 use Rattle.table.proofs.operand_of.Reads as operand-of-reads
 use Rattle.list.proofs.reacting.+resume.{statement}
@@ -46,7 +47,7 @@ abbrev resume-below : ℕ → In 4 resume-kinds.ps
 resume-below t = and 4 resume-kinds.ps (falls 4 resume-kinds.ps _<_ μ-resume t) resume.Pre
 
 abbrev claims : ℕ → resume-lts.Claims
-claims t = (operand-of-reads.Asked, operand-of-reads.Learnt, kind-of-reads.Asked, kind-of-reads.Learnt, alone-reads.Asked, alone-reads.Learnt, with-number-reads.Asked, with-number-reads.Learnt, resume-below t, resume.Post, alter-reads.Asked, alter-reads.Learnt, above-reads.Asked, above-reads.Learnt, without-reads.Asked, without-reads.Learnt, either-reads.Asked, either-reads.Learnt, follow-reads.Asked, follow-reads.Learnt, together-reads.Asked, together-reads.Learnt, follow-again-reads.Asked, follow-again-reads.Learnt)
+claims t = (operand-of-reads.Asked, operand-of-reads.Learnt, kind-of-reads.Asked, kind-of-reads.Learnt, alone-reads.Asked, alone-reads.Learnt, with-reads.Asked, with-reads.Learnt, resume-below t, resume.Post, alter-reads.Asked, alter-reads.Learnt, above-reads.Asked, above-reads.Learnt, without-reads.Asked, without-reads.Learnt, either-reads.Asked, either-reads.Learnt, follow-reads.Asked, follow-reads.Learnt, together-reads.Asked, together-reads.Learnt, follow-again-reads.Asked, follow-again-reads.Learnt)
 
 module _ (t : ℕ) where
   returns : resume-lts.Need-returns (claims t) (resume-at t) resume.Post
@@ -81,10 +82,10 @@ module _ (t : ℕ) where
   kind-of-requires c κs = tt
 
   alone-requires : resume-lts.Need-alone-requires (claims t) (resume-at t) resume.Post
-  alone-requires c κs = (c .before .before .before .before .before .before .before .before .before .pre .1 .0)
+  alone-requires c κs = (c .before .before .before .before .before .before .before .before .before .pre .1 .0, omega arith, omega arith)
 
-  with-number-requires : resume-lts.Need-with-number-requires (claims t) (resume-at t) resume.Post
-  with-number-requires c κs = let e = c .before .before .operand-of .ensures in omega arith
+  with-requires : resume-lts.Need-with-requires (claims t) (resume-at t) resume.Post
+  with-requires c κs = let e = c .before .before .operand-of .ensures in omega arith
 
   resume-requires : resume-lts.Need-resume-requires (claims t) (resume-at t) resume.Post
   resume-requires c κs =
@@ -410,7 +411,7 @@ module _ (t : ℕ) where
       let key = sym (c .before .before .before .before .before .before .before .before .before .before .before .before .before .before .before .before .before .before .before .before .before .kind-of .ensures) ∙ c .before .before .before .before .before .before .before .before .before .before .before .before .before .before .before .before .before .before .before .before .match .keys6 in
       let k = child-signal (r .ready) key in
       let m = altered (Hide (c .before .before .before .before .before .before .before .before .before .before .before .before .before .before .before .before .before .before .before .before .before .before .operand-of .result)) (made-need (s .args .base + roomFor (partAt (s .args .nodes .now) (s .args .at))) (c .before .before .before .before .before .before .before .before .before .before .before .before .before .before .before .before .before .resume .ensures) (omega (arith, k .less))) (c .before .before .before .before .before .before .before .before .before .before .before .before .before .alter .ensures) in
-      list-signal (r .ready) (s .args .assumed) (resumed (s .args .labels)) key (c .before .before .before .before .before .before .before .before .before .before .before .before .before .before .before .before .before .before .before .before .before .before .operand-of .result) _ _ (c .before .before .before .before .before .before .before .before .before .before .before .before .before .before .before .before .before .before .before .before .before .before .operand-of .ensures) (c .before .before .before .before .before .before .before .before .before .before .before .before .before .before .before .before .before .before .before .with-number .ensures) (c .before .before .before .before .before .before .before .before .without .ensures) (joined m (c .before .before .before .before .before .before .before .before .before .above .ensures) (omega (arith, k .less)) _++_ (c .before .before .before .before .before .before .resume2 .ensures) (λ h e. omega (arith, k .less)) (s .pre .1 .0) (c .before .before .either .ensures))
+      list-signal (r .ready) (s .args .assumed) (resumed (s .args .labels)) key (c .before .before .before .before .before .before .before .before .before .before .before .before .before .before .before .before .before .before .before .before .before .before .operand-of .result) _ _ (c .before .before .before .before .before .before .before .before .before .before .before .before .before .before .before .before .before .before .before .before .before .before .operand-of .ensures) (c .before .before .before .before .before .before .before .before .before .before .before .before .before .before .before .before .before .before .before .with .ensures) (c .before .before .before .before .before .before .before .before .without .ensures) (joined m (c .before .before .before .before .before .before .before .before .before .above .ensures) (omega (arith, k .less)) _++_ (c .before .before .before .before .before .before .resume2 .ensures) (λ h e. omega (arith, k .less)) (s .pre .1 .0) (c .before .before .either .ensures))
 
   same-length-4 : resume-lts.Need-same-length-4 (claims t) (resume-at t) resume.Post
   same-length-4 c = returns-10 c .same
@@ -479,14 +480,14 @@ module _ (t : ℕ) where
   same-length-9 c = returns-15 c .same
 
   returns-16 : resume-lts.Need-returns-16 (claims t) (resume-at t) resume.Post
-  returns-16 c =
+  returns-16 c = 
       let s = c .before .before .before .before .before .before .before .before .before in
-      resumed-unused (s .pre .1 .1 .ready) (s .args .labels) (s .args .assumed) (s .args .area .now) (s .args .base) (s .args .base + roomFor (partAt (s .args .nodes .now) (s .args .at))) (s .pre .1 .0) (subst (λ (z : ℕ). 10 < z) (c .before .before .kind-of .ensures) (no-kind (c .before .before .kind-of .result) (c .before .match .rest .0 .0 .0 .0 .0 .0 .0 .0 .0 .0 .1) (c .before .match .rest .0 .0 .0 .0 .0 .0 .0 .0 .0 .1) (c .before .match .rest .0 .0 .0 .0 .0 .0 .0 .0 .1) (c .before .match .rest .0 .0 .0 .0 .0 .0 .0 .1) (c .before .match .rest .0 .0 .0 .0 .0 .0 .1) (c .before .match .rest .0 .0 .0 .0 .0 .1) (c .before .match .rest .0 .0 .0 .0 .1) (c .before .match .rest .0 .0 .0 .1) (c .before .match .rest .0 .0 .1) (c .before .match .rest .0 .1) (c .before .match .rest .1)))
+      absurd (not-known (s .args .nodes .now) (s .args .at) _ (s .pre .1 .1 .ready .known) (c .before .before .kind-of .ensures) (above-ten (c .before .before .kind-of .result) (c .before .match .rest .0 .0 .0 .0 .0 .0 .0 .0 .0 .0 .1) (c .before .match .rest .0 .0 .0 .0 .0 .0 .0 .0 .0 .1) (c .before .match .rest .0 .0 .0 .0 .0 .0 .0 .0 .1) (c .before .match .rest .0 .0 .0 .0 .0 .0 .0 .1) (c .before .match .rest .0 .0 .0 .0 .0 .0 .1) (c .before .match .rest .0 .0 .0 .0 .0 .1) (c .before .match .rest .0 .0 .0 .0 .1) (c .before .match .rest .0 .0 .0 .1) (c .before .match .rest .0 .0 .1) (c .before .match .rest .0 .1) (c .before .match .rest .1)))
 
   returns-17 : resume-lts.Need-returns-17 (claims t) (resume-at t) resume.Post
-  returns-17 c =
+  returns-17 c = 
       let s = c .before .before .before .before .before .before .before .before .before in
-      resumed-unused (s .pre .1 .1 .ready) (s .args .labels) (s .args .assumed) (s .args .area .now) (s .args .base) (s .args .base + roomFor (partAt (s .args .nodes .now) (s .args .at))) (s .pre .1 .0) (let e = c .before .before .kind-of .ensures in omega (arith, c .if5 .left))
+      absurd (not-known (s .args .nodes .now) (s .args .at) _ (s .pre .1 .1 .ready .known) (c .before .before .kind-of .ensures) (omega (arith, c .if5 .left)))
 
 pub +resume-spec : {M : Type 1} → statement M
 +resume-spec =
@@ -506,7 +507,7 @@ pub +resume-spec : {M : Type 1} → statement M
     (add-first t)
     (kind-of-requires t)
     (alone-requires t)
-    (with-number-requires t)
+    (with-requires t)
     (resume-requires t)
     (alter-requires t)
     (above-requires t)

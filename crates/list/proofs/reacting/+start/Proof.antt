@@ -9,13 +9,14 @@ use Rattle.esterel.specs.Statement.{depth}
 use Rattle.esterel.specs.Reactions.{start as started}
 use Rattle.area.specs.declared.Change.the-variants.{Hide, Going, Caught}
 use Rattle.area.specs.declared.Pairing.the-variants.{Parallel}
-use Rattle.area.specs.Rules.{product}
+use Rattle.area.specs.inner.Rules.{product}
 use Rattle.area.proofs.Made.{made-need, made-cramped}
 use Rattle.list.specs.inner.Notes.{partAt}
 use Rattle.list.specs.inner.Joins.{roomFor}
-use Rattle.list.proofs.Nodes.{no-kind}
+use Rattle.table.proofs.Places.{above-ten}
+use Rattle.list.proofs.Nodes.{not-known}
 use Rattle.list.proofs.Joins.{altered, beside, beside-top, joined, followed-not, ending-small, followed-by}
-use Rattle.list.proofs.Starts.{place-few, emits-narrow, ready-at, child-signal, child-present, child-else, child-sequence, child-then, child-parallel, child-beside, child-loop, child-try, list-nothing, list-unused, list-pause, list-gotopause, list-emit, list-exit, list-signal, list-loop, list-try, list-then, list-else, list-sequence, list-parallel}
+use Rattle.list.proofs.Starts.{place-few, emits-narrow, ready-at, child-signal, child-present, child-else, child-sequence, child-then, child-parallel, child-beside, child-loop, child-try, list-nothing, list-pause, list-gotopause, list-emit, list-exit, list-signal, list-loop, list-try, list-then, list-else, list-sequence, list-parallel}
 use Prim.Native.Nat.{ℕ, _+_, _<_}
 use borrow.Fn.Kinds.{In}
 use borrow.Fn.PlainCycle.{Measures, is, falls, and}
@@ -29,12 +30,12 @@ use Rattle.list.proofs.reacting.above.Reads as above-reads
 use Rattle.list.proofs.reacting.alone.Reads as alone-reads
 use Rattle.list.proofs.reacting.either.Reads as either-reads
 use Rattle.list.proofs.reacting.emitted.Reads as emitted-reads
-use Rattle.list.proofs.reacting.exit_code.Reads as exit-code-reads
+use Rattle.list.proofs.reacting.left.Reads as left-reads
 use Rattle.list.proofs.reacting.some_ends.Reads as some-ends-reads
 use Rattle.list.proofs.reacting.together.Reads as together-reads
-use Rattle.list.proofs.reacting.with_number.Reads as with-number-reads
+use Rattle.sets.proofs.with.Reads as with-reads
 use Rattle.sets.proofs.contains.Reads as contains-reads
-use Rattle.sets.proofs.singleton.Reads as singleton-reads
+use Rattle.list.proofs.reacting.paused.Reads as paused-reads
 use Rattle.table.proofs.kind_of.Reads as kind-of-reads
 use Rattle.table.proofs.operand_of.Reads as operand-of-reads
 use Rattle.list.proofs.reacting.+start.{statement}
@@ -50,7 +51,7 @@ abbrev start-below : ℕ → In 3 start-kinds.ps
 start-below t = and 3 start-kinds.ps (falls 3 start-kinds.ps _<_ μ-start t) start.Pre
 
 abbrev claims : ℕ → start-lts.Claims
-claims t = (operand-of-reads.Asked, operand-of-reads.Learnt, kind-of-reads.Asked, kind-of-reads.Learnt, alone-reads.Asked, alone-reads.Learnt, singleton-reads.Asked, singleton-reads.Learnt, emitted-reads.Asked, emitted-reads.Learnt, exit-code-reads.Asked, exit-code-reads.Learnt, with-number-reads.Asked, with-number-reads.Learnt, start-below t, start.Post, alter-reads.Asked, alter-reads.Learnt, above-reads.Asked, above-reads.Learnt, without-reads.Asked, without-reads.Learnt, either-reads.Asked, either-reads.Learnt, contains-reads.Asked, contains-reads.Learnt, some-ends-reads.Asked, some-ends-reads.Learnt, product-reads.Asked, product-reads.Learnt, together-reads.Asked, together-reads.Learnt)
+claims t = (operand-of-reads.Asked, operand-of-reads.Learnt, kind-of-reads.Asked, kind-of-reads.Learnt, alone-reads.Asked, alone-reads.Learnt, paused-reads.Asked, paused-reads.Learnt, emitted-reads.Asked, emitted-reads.Learnt, left-reads.Asked, left-reads.Learnt, with-reads.Asked, with-reads.Learnt, start-below t, start.Post, alter-reads.Asked, alter-reads.Learnt, above-reads.Asked, above-reads.Learnt, without-reads.Asked, without-reads.Learnt, either-reads.Asked, either-reads.Learnt, contains-reads.Asked, contains-reads.Learnt, some-ends-reads.Asked, some-ends-reads.Learnt, product-reads.Asked, product-reads.Learnt, together-reads.Asked, together-reads.Learnt)
 
 module _ (t : ℕ) where
   returns : start-lts.Need-returns (claims t) (start-at t) start.Post
@@ -74,33 +75,24 @@ module _ (t : ℕ) where
   kind-of-requires c κs = tt
 
   alone-requires : start-lts.Need-alone-requires (claims t) (start-at t) start.Post
-  alone-requires c κs = (c .before .before .before .before .before .before .before .pre .1 .0)
+  alone-requires c κs = (c .before .before .before .before .before .before .before .pre .1 .0, omega arith, omega arith)
 
-  singleton-requires : start-lts.Need-singleton-requires (claims t) (start-at t) start.Post
-  singleton-requires c κs = tt
+  paused-requires : start-lts.Need-paused-requires (claims t) (start-at t) start.Post
+  paused-requires c κs = let e = c .before .before .before .operand-of .ensures in (c .before .before .before .before .before .before .before .pre .1 .0, omega arith)
 
-  alone-requires-2 : start-lts.Need-alone-requires-2 (claims t) (start-at t) start.Post
-  alone-requires-2 c κs = (c .before .before .before .before .before .before .before .before .pre .1 .0)
-
-  singleton-requires-2 : start-lts.Need-singleton-requires-2 (claims t) (start-at t) start.Post
-  singleton-requires-2 c κs = tt
-
-  alone-requires-3 : start-lts.Need-alone-requires-3 (claims t) (start-at t) start.Post
-  alone-requires-3 c κs = (c .before .before .before .before .before .before .before .before .pre .1 .0)
+  paused-requires-2 : start-lts.Need-paused-requires-2 (claims t) (start-at t) start.Post
+  paused-requires-2 c κs = let e = c .before .before .before .operand-of .ensures in (c .before .before .before .before .before .before .before .pre .1 .0, omega arith)
 
   emitted-requires : start-lts.Need-emitted-requires (claims t) (start-at t) start.Post
   emitted-requires c κs =
       let s = c .before .before .before .before .before .before .before in
       ((s .pre .1 .0), subst (λ (z : ℕ). z < 32) (sym (c .before .before .before .operand-of .ensures)) (emits-narrow (s .pre .1 .1) (sym (c .before .before .kind-of .ensures) ∙ c .before .match .keys4)))
 
-  exit-code-requires : start-lts.Need-exit-code-requires (claims t) (start-at t) start.Post
-  exit-code-requires c κs = tt
+  left-requires : start-lts.Need-left-requires (claims t) (start-at t) start.Post
+  left-requires c κs = let e = c .before .before .before .operand-of .ensures in (c .before .before .before .before .before .before .before .pre .1 .0, omega arith)
 
-  alone-requires-4 : start-lts.Need-alone-requires-4 (claims t) (start-at t) start.Post
-  alone-requires-4 c κs = (c .before .before .before .before .before .before .before .before .pre .1 .0)
-
-  with-number-requires : start-lts.Need-with-number-requires (claims t) (start-at t) start.Post
-  with-number-requires c κs = let e = c .before .before .operand-of .ensures in omega arith
+  with-requires : start-lts.Need-with-requires (claims t) (start-at t) start.Post
+  with-requires c κs = let e = c .before .before .operand-of .ensures in omega arith
 
   start-requires : start-lts.Need-start-requires (claims t) (start-at t) start.Post
   start-requires c κs =
@@ -326,12 +318,6 @@ module _ (t : ℕ) where
   alter-requires-3 : start-lts.Need-alter-requires-3 (claims t) (start-at t) start.Post
   alter-requires-3 c κs = λ h. omega (arith, c .before .before .before .start10 .ensures .fits h, c .before .before .before .start10 .ensures .same)
 
-  alone-requires-5 : start-lts.Need-alone-requires-5 (claims t) (start-at t) start.Post
-  alone-requires-5 c κs = (c .before .before .before .before .before .before .before .before .pre .1 .0)
-
-  alone-requires-6 : start-lts.Need-alone-requires-6 (claims t) (start-at t) start.Post
-  alone-requires-6 c κs = (c .before .before .before .before .before .before .before .before .pre .1 .0)
-
   returns-3 : start-lts.Need-returns-3 (claims t) (start-at t) start.Post
   returns-3 c =
       let s = c .before .before .before .before .before .before .before .before .before .before in
@@ -341,17 +327,17 @@ module _ (t : ℕ) where
   same-length-2 c = returns-3 c .same
 
   returns-4 : start-lts.Need-returns-4 (claims t) (start-at t) start.Post
-  returns-4 c =
-      let s = c .before .before .before .before .before .before .before .before .before .before .before in
-      list-pause (s .pre .1 .1) (s .args .assumed) (sym (c .before .before .before .before .before .before .kind-of .ensures) ∙ c .before .before .before .before .before .match .keys2) (c .before .before .before .before .before .before .before .operand-of .result) _ (c .before .before .before .before .before .before .before .operand-of .ensures) (c .before .before .before .singleton .ensures) (c .before .before .alone2 .ensures)
+  returns-4 c = 
+      let s = c .before .before .before .before .before .before .before .before .before .before in
+      list-pause (s .pre .1 .1) (s .args .assumed) (sym (c .before .before .before .before .before .kind-of .ensures) ∙ c .before .before .before .before .match .keys2) (c .before .before .before .before .before .before .operand-of .result) (c .before .before .before .before .before .before .operand-of .ensures) (c .before .before .paused .ensures)
 
   same-length-3 : start-lts.Need-same-length-3 (claims t) (start-at t) start.Post
   same-length-3 c = returns-4 c .same
 
   returns-5 : start-lts.Need-returns-5 (claims t) (start-at t) start.Post
-  returns-5 c =
-      let s = c .before .before .before .before .before .before .before .before .before .before .before in
-      list-gotopause (s .pre .1 .1) (s .args .assumed) (sym (c .before .before .before .before .before .before .kind-of .ensures) ∙ c .before .before .before .before .before .match .keys3) (c .before .before .before .before .before .before .before .operand-of .result) _ (c .before .before .before .before .before .before .before .operand-of .ensures) (c .before .before .before .singleton2 .ensures) (c .before .before .alone3 .ensures)
+  returns-5 c = 
+      let s = c .before .before .before .before .before .before .before .before .before .before in
+      list-gotopause (s .pre .1 .1) (s .args .assumed) (sym (c .before .before .before .before .before .kind-of .ensures) ∙ c .before .before .before .before .match .keys3) (c .before .before .before .before .before .before .operand-of .result) (c .before .before .before .before .before .before .operand-of .ensures) (c .before .before .paused2 .ensures)
 
   same-length-4 : start-lts.Need-same-length-4 (claims t) (start-at t) start.Post
   same-length-4 c = returns-5 c .same
@@ -365,9 +351,9 @@ module _ (t : ℕ) where
   same-length-5 c = returns-6 c .same
 
   returns-7 : start-lts.Need-returns-7 (claims t) (start-at t) start.Post
-  returns-7 c =
-      let s = c .before .before .before .before .before .before .before .before .before .before .before in
-      list-exit (s .pre .1 .1) (s .args .assumed) (sym (c .before .before .before .before .before .before .kind-of .ensures) ∙ c .before .before .before .before .before .match .keys5) (c .before .before .before .before .before .before .before .operand-of .result) _ (c .before .before .before .before .before .before .before .operand-of .ensures) (c .before .before .before .exit-code .ensures) (c .before .before .alone4 .ensures)
+  returns-7 c = 
+      let s = c .before .before .before .before .before .before .before .before .before .before in
+      list-exit (s .pre .1 .1) (s .args .assumed) (sym (c .before .before .before .before .before .kind-of .ensures) ∙ c .before .before .before .before .match .keys5) (c .before .before .before .before .before .before .operand-of .result) (c .before .before .before .before .before .before .operand-of .ensures) (c .before .before .left .ensures)
 
   same-length-6 : start-lts.Need-same-length-6 (claims t) (start-at t) start.Post
   same-length-6 c = returns-7 c .same
@@ -379,7 +365,7 @@ module _ (t : ℕ) where
       let key = sym (c .before .before .before .before .before .before .before .before .before .before .before .before .before .before .before .before .before .before .before .before .before .kind-of .ensures) ∙ c .before .before .before .before .before .before .before .before .before .before .before .before .before .before .before .before .before .before .before .before .match .keys6 in
       let k = child-signal r key in
       let m = altered (Hide (c .before .before .before .before .before .before .before .before .before .before .before .before .before .before .before .before .before .before .before .before .before .before .operand-of .result)) (made-need (s .args .base + roomFor (partAt (s .args .nodes .now) (s .args .at))) (c .before .before .before .before .before .before .before .before .before .before .before .before .before .before .before .before .before .start .ensures) (omega (arith, k .less))) (c .before .before .before .before .before .before .before .before .before .before .before .before .before .alter .ensures) in
-      list-signal r (s .args .assumed) started key (c .before .before .before .before .before .before .before .before .before .before .before .before .before .before .before .before .before .before .before .before .before .before .operand-of .result) _ _ (c .before .before .before .before .before .before .before .before .before .before .before .before .before .before .before .before .before .before .before .before .before .before .operand-of .ensures) (c .before .before .before .before .before .before .before .before .before .before .before .before .before .before .before .before .before .before .before .with-number .ensures) (c .before .before .before .before .before .before .before .before .without .ensures) (joined m (c .before .before .before .before .before .before .before .before .before .above .ensures) (omega (arith, k .less)) _++_ (c .before .before .before .before .before .before .start2 .ensures) (λ h e. omega (arith, k .less)) (s .pre .1 .0) (c .before .before .either .ensures))
+      list-signal r (s .args .assumed) started key (c .before .before .before .before .before .before .before .before .before .before .before .before .before .before .before .before .before .before .before .before .before .before .operand-of .result) _ _ (c .before .before .before .before .before .before .before .before .before .before .before .before .before .before .before .before .before .before .before .before .before .before .operand-of .ensures) (c .before .before .before .before .before .before .before .before .before .before .before .before .before .before .before .before .before .before .before .with .ensures) (c .before .before .before .before .before .before .before .before .without .ensures) (joined m (c .before .before .before .before .before .before .before .before .before .above .ensures) (omega (arith, k .less)) _++_ (c .before .before .before .before .before .before .start2 .ensures) (λ h e. omega (arith, k .less)) (s .pre .1 .0) (c .before .before .either .ensures))
 
   same-length-7 : start-lts.Need-same-length-7 (claims t) (start-at t) start.Post
   same-length-7 c = returns-8 c .same
@@ -456,20 +442,14 @@ module _ (t : ℕ) where
   same-length-13 c = returns-14 c .same
 
   returns-15 : start-lts.Need-returns-15 (claims t) (start-at t) start.Post
-  returns-15 c =
-      let s = c .before .before .before .before .before .before .before .before .before .before .before in
-      list-unused (s .pre .1 .1) (s .args .assumed) (subst (λ (z : ℕ). 10 < z) (c .before .before .before .before .before .before .kind-of .ensures) (no-kind (c .before .before .before .before .before .before .kind-of .result) (c .before .before .before .before .before .match .rest .0 .0 .0 .0 .0 .0 .0 .0 .0 .0 .1) (c .before .before .before .before .before .match .rest .0 .0 .0 .0 .0 .0 .0 .0 .0 .1) (c .before .before .before .before .before .match .rest .0 .0 .0 .0 .0 .0 .0 .0 .1) (c .before .before .before .before .before .match .rest .0 .0 .0 .0 .0 .0 .0 .1) (c .before .before .before .before .before .match .rest .0 .0 .0 .0 .0 .0 .1) (c .before .before .before .before .before .match .rest .0 .0 .0 .0 .0 .1) (c .before .before .before .before .before .match .rest .0 .0 .0 .0 .1) (c .before .before .before .before .before .match .rest .0 .0 .0 .1) (c .before .before .before .before .before .match .rest .0 .0 .1) (c .before .before .before .before .before .match .rest .0 .1) (c .before .before .before .before .before .match .rest .1))) (c .before .before .alone5 .ensures)
-
-  same-length-14 : start-lts.Need-same-length-14 (claims t) (start-at t) start.Post
-  same-length-14 c = returns-15 c .same
+  returns-15 c = 
+      let s = c .before .before .before .before .before .before .before in
+      absurd (not-known (s .args .nodes .now) (s .args .at) _ (s .pre .1 .1 .known) (c .before .before .kind-of .ensures) (above-ten (c .before .before .kind-of .result) (c .before .match .rest .0 .0 .0 .0 .0 .0 .0 .0 .0 .0 .1) (c .before .match .rest .0 .0 .0 .0 .0 .0 .0 .0 .0 .1) (c .before .match .rest .0 .0 .0 .0 .0 .0 .0 .0 .1) (c .before .match .rest .0 .0 .0 .0 .0 .0 .0 .1) (c .before .match .rest .0 .0 .0 .0 .0 .0 .1) (c .before .match .rest .0 .0 .0 .0 .0 .1) (c .before .match .rest .0 .0 .0 .0 .1) (c .before .match .rest .0 .0 .0 .1) (c .before .match .rest .0 .0 .1) (c .before .match .rest .0 .1) (c .before .match .rest .1)))
 
   returns-16 : start-lts.Need-returns-16 (claims t) (start-at t) start.Post
-  returns-16 c =
-      let s = c .before .before .before .before .before .before .before .before .before .before .before in
-      list-unused (s .pre .1 .1) (s .args .assumed) (let e = c .before .before .before .before .before .before .kind-of .ensures in omega (arith, c .before .before .before .before .if4 .left)) (c .before .before .alone6 .ensures)
-
-  same-length-15 : start-lts.Need-same-length-15 (claims t) (start-at t) start.Post
-  same-length-15 c = returns-16 c .same
+  returns-16 c = 
+      let s = c .before .before .before .before .before .before .before in
+      absurd (not-known (s .args .nodes .now) (s .args .at) _ (s .pre .1 .1 .known) (c .before .before .kind-of .ensures) (omega (arith, c .if4 .left)))
 
 pub +start-spec : {M : Type 1} → statement M
 +start-spec =
@@ -486,14 +466,11 @@ pub +start-spec : {M : Type 1} → statement M
     (add-first t)
     (kind-of-requires t)
     (alone-requires t)
-    (singleton-requires t)
-    (alone-requires-2 t)
-    (singleton-requires-2 t)
-    (alone-requires-3 t)
+    (paused-requires t)
+    (paused-requires-2 t)
     (emitted-requires t)
-    (exit-code-requires t)
-    (alone-requires-4 t)
-    (with-number-requires t)
+    (left-requires t)
+    (with-requires t)
     (start-requires t)
     (alter-requires t)
     (above-requires t)
@@ -528,8 +505,6 @@ pub +start-spec : {M : Type 1} → statement M
     (alter-requires-2 t)
     (start-requires-10 t)
     (alter-requires-3 t)
-    (alone-requires-5 t)
-    (alone-requires-6 t)
     (same-length-2 t)
     (returns-3 t)
     (same-length-3 t)
@@ -554,7 +529,5 @@ pub +start-spec : {M : Type 1} → statement M
     (returns-13 t)
     (same-length-13 t)
     (returns-14 t)
-    (same-length-14 t)
     (returns-15 t)
-    (same-length-15 t)
     (returns-16 t)

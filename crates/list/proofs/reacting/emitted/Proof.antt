@@ -2,7 +2,8 @@
 use native.Mathlib.Omega.{arith}
 use mathlib.Core.Path.{sym, _∙_}
 use borrow.Author.Tests.{not-true, not-false}
-use Rattle.sets.proofs.Words.{only-below, only-word}
+use Rattle.sets.proofs.Members.{only-fits}
+use Rattle.sets.proofs.Words.{only-below}
 use Rattle.list.proofs.Starts.{emit-none, emit-one}
 use borrow.Author.Needs.{needs}
 use Rattle.list.proofs.reacting.emitted.Statement.{statement}
@@ -17,11 +18,9 @@ returns c = emit-none (c .before .before .before .args .area .now) (c .before .b
 singleton-requires : tie.Need-singleton-requires
 singleton-requires c κs = search needs
 
-mul-alone : tie.Need-mul-alone
-mul-alone c = omega (arith, c .singleton .ensures, only-word 64 (c .before .before .before .before .before .args .signal) (omega (arith, c .before .before .before .before .before .pre .1)), only-below 32 (c .before .before .before .before .before .args .signal) (c .before .before .before .before .before .pre .1))
-
 alone-requires : tie.Need-alone-requires
-alone-requires c κs = search needs
+alone-requires c κs = let s = c .before .before .before .before .before in
+    (s .pre .0, omega (arith, c .singleton .ensures, only-fits 64 (s .args .signal) (omega (arith, s .pre .1)), only-below 32 (s .args .signal) (s .pre .1)), omega arith)
 
 same-length : tie.Need-same-length
 same-length c = search needs
@@ -36,7 +35,6 @@ emitted-spec =
     contains-requires
     returns
     singleton-requires
-    mul-alone
     alone-requires
     same-length
     returns-2)

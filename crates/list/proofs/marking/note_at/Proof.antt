@@ -4,11 +4,12 @@ use Prim.Native.Nat.{ℕ, _%_, _^_, _<_}
 use mathlib.Core.Path.{sym, ap, _∙_, subst}
 use lib.ListN.{getD}
 use Rattle.sets.specs.Set.{only}
-use Rattle.list.proofs.Nodes.{no-kind}
-use Rattle.list.proofs.Marks.{has-room, pause-word, mark-nothing, mark-pause, mark-gotopause, mark-emit, mark-exit, mark-signal, mark-present, mark-sequence, mark-parallel, mark-loop, mark-try, mark-unused}
+use Rattle.table.proofs.Places.{above-ten}
+use Rattle.list.proofs.Nodes.{not-known}
+use Rattle.list.proofs.Marks.{has-room, pause-word, mark-nothing, mark-pause, mark-gotopause, mark-emit, mark-exit, mark-signal, mark-present, mark-sequence, mark-parallel, mark-loop, mark-try}
 use borrow.Author.Needs.{needs}
-use Rattle.list.proofs.marking.mark_at.Statement.{statement}
-use Rattle.list.proofs.marking.mark_at.Tie as tie
+use Rattle.list.proofs.marking.note_at.Statement.{statement}
+use Rattle.list.proofs.marking.note_at.Tie as tie
 
 mul-node : tie.Need-mul-node
 mul-node c = let s = c .before .before .before in omega (arith, s .pre .0, s .pre .1)
@@ -28,67 +29,67 @@ singleton-requires c κs = search needs
 note-none-requires : tie.Need-note-none-requires
 note-none-requires c κs =
     let s = c .before .before .before .before .before .before .before .before .before .before .before in
-    has-room (s .pre .2) (s .pre .0) (s .pre .1)
+    has-room (s .pre .3) (s .pre .0) (s .pre .1)
 
 note-none-requires-2 : tie.Need-note-none-requires-2
 note-none-requires-2 c κs =
     let s = c .before .before .before .before .before .before .before .before .before .before .before in
-    has-room (s .pre .2) (s .pre .0) (s .pre .1)
+    has-room (s .pre .3) (s .pre .0) (s .pre .1)
 
 note-none-requires-3 : tie.Need-note-none-requires-3
 note-none-requires-3 c κs =
     let s = c .before .before .before .before .before .before .before .before .before .before .before in
-    has-room (s .pre .2) (s .pre .0) (s .pre .1)
+    has-room (s .pre .3) (s .pre .0) (s .pre .1)
 
 note-none-requires-4 : tie.Need-note-none-requires-4
 note-none-requires-4 c κs =
     let s = c .before .before .before .before .before .before .before .before .before .before .before in
-    has-room (s .pre .2) (s .pre .0) (s .pre .1)
+    has-room (s .pre .3) (s .pre .0) (s .pre .1)
 
 note-none-requires-5 : tie.Need-note-none-requires-5
 note-none-requires-5 c κs =
     let s = c .before .before .before .before .before .before .before .before .before .before .before in
-    has-room (s .pre .2) (s .pre .0) (s .pre .1)
+    has-room (s .pre .3) (s .pre .0) (s .pre .1)
 
 note-signal-requires : tie.Need-note-signal-requires
 note-signal-requires c κs =
     let s = c .before .before .before .before .before .before .before .before .before .before .before in
-    has-room (s .pre .2) (s .pre .0) (s .pre .1)
+    has-room (s .pre .3) (s .pre .0) (s .pre .1)
 
 note-two-requires : tie.Need-note-two-requires
 note-two-requires c κs =
     let s = c .before .before .before .before .before .before .before .before .before .before .before in
-    has-room (s .pre .2) (s .pre .0) (s .pre .1)
+    has-room (s .pre .3) (s .pre .0) (s .pre .1)
 
 note-two-requires-2 : tie.Need-note-two-requires-2
 note-two-requires-2 c κs =
     let s = c .before .before .before .before .before .before .before .before .before .before .before in
-    has-room (s .pre .2) (s .pre .0) (s .pre .1)
+    has-room (s .pre .3) (s .pre .0) (s .pre .1)
 
 note-two-requires-3 : tie.Need-note-two-requires-3
 note-two-requires-3 c κs =
     let s = c .before .before .before .before .before .before .before .before .before .before .before in
-    has-room (s .pre .2) (s .pre .0) (s .pre .1)
+    has-room (s .pre .3) (s .pre .0) (s .pre .1)
 
 note-one-requires : tie.Need-note-one-requires
 note-one-requires c κs =
     let s = c .before .before .before .before .before .before .before .before .before .before .before in
-    has-room (s .pre .2) (s .pre .0) (s .pre .1)
+    has-room (s .pre .3) (s .pre .0) (s .pre .1)
 
 note-one-requires-2 : tie.Need-note-one-requires-2
 note-one-requires-2 c κs =
     let s = c .before .before .before .before .before .before .before .before .before .before .before in
-    has-room (s .pre .2) (s .pre .0) (s .pre .1)
+    has-room (s .pre .3) (s .pre .0) (s .pre .1)
 
-note-none-requires-6 : tie.Need-note-none-requires-6
-note-none-requires-6 c κs =
+note-refused-requires : tie.Need-note-refused-requires
+note-refused-requires c κs =
     let s = c .before .before .before .before .before .before .before .before .before .before .before .before in
-    has-room (s .pre .2) (s .pre .0) (s .pre .1)
+    has-room (s .pre .3) (s .pre .0) (s .pre .1)
 
-note-none-requires-7 : tie.Need-note-none-requires-7
-note-none-requires-7 c κs =
+note-refused-requires-2 : tie.Need-note-refused-requires-2
+note-refused-requires-2 c κs =
     let s = c .before .before .before .before .before .before .before .before .before .before .before .before in
-    has-room (s .pre .2) (s .pre .0) (s .pre .1)
+    has-room (s .pre .3) (s .pre .0) (s .pre .1)
 
 same-length : tie.Need-same-length
 same-length c = search needs
@@ -102,7 +103,7 @@ same-length-3 c = search needs
 returns : tie.Need-returns
 returns c =
     let s = c .before .before .before .before .before .before .before .before .before .before .before .before .before .before .before .before .before .before in
-    mark-nothing (s .pre .0) (s .pre .2) (sym (c .before .before .before .before .before .before .before .before .before .before .before .before .before .kind-of .ensures) ∙ c .before .before .before .before .before .before .before .before .before .before .match .keys1) (c .before .before .before .before .before .before .note-none .ensures)
+    mark-nothing (s .pre .0) (s .pre .3) (sym (c .before .before .before .before .before .before .before .before .before .before .before .before .before .kind-of .ensures) ∙ c .before .before .before .before .before .before .before .before .before .before .match .keys1) (c .before .before .before .before .before .before .note-none .ensures)
 
 same-length-4 : tie.Need-same-length-4
 same-length-4 c = search needs
@@ -116,7 +117,7 @@ same-length-6 c = search needs
 returns-2 : tie.Need-returns-2
 returns-2 c =
     let s = c .before .before .before .before .before .before .before .before .before .before .before .before .before .before .before .before .before .before in
-    mark-pause (s .pre .0) (s .pre .2) (sym (c .before .before .before .before .before .before .before .before .before .before .before .before .before .kind-of .ensures) ∙ c .before .before .before .before .before .before .before .before .before .before .match .keys2) _ (c .before .before .before .before .before .before .before .before .before .before .before .singleton .ensures ∙ ap (λ (z : ℕ). only z % 2 ^ 64) (c .before .before .before .before .before .before .before .before .before .before .before .before .operand-of .ensures) ∙ pause-word (getD (s .args .nodes .now) (s .args .at) 0)) (c .before .before .before .before .before .before .note-none2 .ensures)
+    mark-pause (s .pre .0) (s .pre .3) (sym (c .before .before .before .before .before .before .before .before .before .before .before .before .before .kind-of .ensures) ∙ c .before .before .before .before .before .before .before .before .before .before .match .keys2) _ (c .before .before .before .before .before .before .before .before .before .before .before .singleton .ensures ∙ ap (λ (z : ℕ). only z % 2 ^ 64) (c .before .before .before .before .before .before .before .before .before .before .before .before .operand-of .ensures) ∙ pause-word (getD (s .args .nodes .now) (s .args .at) 0)) (c .before .before .before .before .before .before .note-none2 .ensures)
 
 same-length-7 : tie.Need-same-length-7
 same-length-7 c = search needs
@@ -130,7 +131,7 @@ same-length-9 c = search needs
 returns-3 : tie.Need-returns-3
 returns-3 c =
     let s = c .before .before .before .before .before .before .before .before .before .before .before .before .before .before .before .before .before .before in
-    mark-gotopause (s .pre .0) (s .pre .2) (sym (c .before .before .before .before .before .before .before .before .before .before .before .before .before .kind-of .ensures) ∙ c .before .before .before .before .before .before .before .before .before .before .match .keys3) (c .before .before .before .before .before .before .note-none3 .ensures)
+    mark-gotopause (s .pre .0) (s .pre .3) (sym (c .before .before .before .before .before .before .before .before .before .before .before .before .before .kind-of .ensures) ∙ c .before .before .before .before .before .before .before .before .before .before .match .keys3) (c .before .before .before .before .before .before .note-none3 .ensures)
 
 same-length-10 : tie.Need-same-length-10
 same-length-10 c = search needs
@@ -144,7 +145,7 @@ same-length-12 c = search needs
 returns-4 : tie.Need-returns-4
 returns-4 c =
     let s = c .before .before .before .before .before .before .before .before .before .before .before .before .before .before .before .before .before .before in
-    mark-emit (s .pre .0) (s .pre .2) (sym (c .before .before .before .before .before .before .before .before .before .before .before .before .before .kind-of .ensures) ∙ c .before .before .before .before .before .before .before .before .before .before .match .keys4) (c .before .before .before .before .before .before .note-none4 .ensures)
+    mark-emit (s .pre .0) (s .pre .3) (sym (c .before .before .before .before .before .before .before .before .before .before .before .before .before .kind-of .ensures) ∙ c .before .before .before .before .before .before .before .before .before .before .match .keys4) (c .before .before .before .before .before .before .note-none4 .ensures)
 
 same-length-13 : tie.Need-same-length-13
 same-length-13 c = search needs
@@ -158,7 +159,7 @@ same-length-15 c = search needs
 returns-5 : tie.Need-returns-5
 returns-5 c =
     let s = c .before .before .before .before .before .before .before .before .before .before .before .before .before .before .before .before .before .before in
-    mark-exit (s .pre .0) (s .pre .2) (sym (c .before .before .before .before .before .before .before .before .before .before .before .before .before .kind-of .ensures) ∙ c .before .before .before .before .before .before .before .before .before .before .match .keys5) (c .before .before .before .before .before .before .note-none5 .ensures)
+    mark-exit (s .pre .0) (s .pre .3) (sym (c .before .before .before .before .before .before .before .before .before .before .before .before .before .kind-of .ensures) ∙ c .before .before .before .before .before .before .before .before .before .before .match .keys5) (c .before .before .before .before .before .before .note-none5 .ensures)
 
 same-length-16 : tie.Need-same-length-16
 same-length-16 c = search needs
@@ -172,7 +173,7 @@ same-length-18 c = search needs
 returns-6 : tie.Need-returns-6
 returns-6 c =
     let s = c .before .before .before .before .before .before .before .before .before .before .before .before .before .before .before .before .before .before in
-    mark-signal (s .pre .0) (s .pre .2) (sym (c .before .before .before .before .before .before .before .before .before .before .before .before .before .kind-of .ensures) ∙ c .before .before .before .before .before .before .before .before .before .before .match .keys6) (c .before .before .before .before .before .before .note-signal .ensures)
+    mark-signal (s .pre .0) (s .pre .3) (sym (c .before .before .before .before .before .before .before .before .before .before .before .before .before .kind-of .ensures) ∙ c .before .before .before .before .before .before .before .before .before .before .match .keys6) (c .before .before .before .before .before .before .note-signal .ensures)
 
 same-length-19 : tie.Need-same-length-19
 same-length-19 c = search needs
@@ -186,7 +187,7 @@ same-length-21 c = search needs
 returns-7 : tie.Need-returns-7
 returns-7 c =
     let s = c .before .before .before .before .before .before .before .before .before .before .before .before .before .before .before .before .before .before in
-    mark-present (s .pre .0) (s .pre .2) (sym (c .before .before .before .before .before .before .before .before .before .before .before .before .before .kind-of .ensures) ∙ c .before .before .before .before .before .before .before .before .before .before .match .keys7) (c .before .before .before .before .before .before .note-two .ensures)
+    mark-present (s .pre .0) (s .pre .3) (sym (c .before .before .before .before .before .before .before .before .before .before .before .before .before .kind-of .ensures) ∙ c .before .before .before .before .before .before .before .before .before .before .match .keys7) (c .before .before .before .before .before .before .note-two .ensures)
 
 same-length-22 : tie.Need-same-length-22
 same-length-22 c = search needs
@@ -200,7 +201,7 @@ same-length-24 c = search needs
 returns-8 : tie.Need-returns-8
 returns-8 c =
     let s = c .before .before .before .before .before .before .before .before .before .before .before .before .before .before .before .before .before .before in
-    mark-sequence (s .pre .0) (s .pre .2) (sym (c .before .before .before .before .before .before .before .before .before .before .before .before .before .kind-of .ensures) ∙ c .before .before .before .before .before .before .before .before .before .before .match .keys8) (c .before .before .before .before .before .before .note-two2 .ensures)
+    mark-sequence (s .pre .0) (s .pre .3) (sym (c .before .before .before .before .before .before .before .before .before .before .before .before .before .kind-of .ensures) ∙ c .before .before .before .before .before .before .before .before .before .before .match .keys8) (c .before .before .before .before .before .before .note-two2 .ensures)
 
 same-length-25 : tie.Need-same-length-25
 same-length-25 c = search needs
@@ -214,7 +215,7 @@ same-length-27 c = search needs
 returns-9 : tie.Need-returns-9
 returns-9 c =
     let s = c .before .before .before .before .before .before .before .before .before .before .before .before .before .before .before .before .before .before in
-    mark-parallel (s .pre .0) (s .pre .2) (sym (c .before .before .before .before .before .before .before .before .before .before .before .before .before .kind-of .ensures) ∙ c .before .before .before .before .before .before .before .before .before .before .match .keys9) (c .before .before .before .before .before .before .note-two3 .ensures)
+    mark-parallel (s .pre .0) (s .pre .3) (sym (c .before .before .before .before .before .before .before .before .before .before .before .before .before .kind-of .ensures) ∙ c .before .before .before .before .before .before .before .before .before .before .match .keys9) (c .before .before .before .before .before .before .note-two3 .ensures)
 
 same-length-28 : tie.Need-same-length-28
 same-length-28 c = search needs
@@ -228,7 +229,7 @@ same-length-30 c = search needs
 returns-10 : tie.Need-returns-10
 returns-10 c =
     let s = c .before .before .before .before .before .before .before .before .before .before .before .before .before .before .before .before .before .before in
-    mark-loop (s .pre .0) (s .pre .2) (sym (c .before .before .before .before .before .before .before .before .before .before .before .before .before .kind-of .ensures) ∙ c .before .before .before .before .before .before .before .before .before .before .match .keys10) (c .before .before .before .before .before .before .note-one .ensures)
+    mark-loop (s .pre .0) (s .pre .3) (sym (c .before .before .before .before .before .before .before .before .before .before .before .before .before .kind-of .ensures) ∙ c .before .before .before .before .before .before .before .before .before .before .match .keys10) (c .before .before .before .before .before .before .note-one .ensures)
 
 same-length-31 : tie.Need-same-length-31
 same-length-31 c = search needs
@@ -242,7 +243,7 @@ same-length-33 c = search needs
 returns-11 : tie.Need-returns-11
 returns-11 c =
     let s = c .before .before .before .before .before .before .before .before .before .before .before .before .before .before .before .before .before .before in
-    mark-try (s .pre .0) (s .pre .2) (sym (c .before .before .before .before .before .before .before .before .before .before .before .before .before .kind-of .ensures) ∙ c .before .before .before .before .before .before .before .before .before .before .match .keys11) (c .before .before .before .before .before .before .note-one2 .ensures)
+    mark-try (s .pre .0) (s .pre .3) (sym (c .before .before .before .before .before .before .before .before .before .before .before .before .before .kind-of .ensures) ∙ c .before .before .before .before .before .before .before .before .before .before .match .keys11) (c .before .before .before .before .before .before .note-one2 .ensures)
 
 same-length-34 : tie.Need-same-length-34
 same-length-34 c = search needs
@@ -254,9 +255,7 @@ same-length-36 : tie.Need-same-length-36
 same-length-36 c = search needs
 
 returns-12 : tie.Need-returns-12
-returns-12 c =
-    let s = c .before .before .before .before .before .before .before .before .before .before .before .before .before .before .before .before .before .before .before in
-    mark-unused (s .pre .0) (s .pre .2) (subst (λ (z : ℕ). 10 < z) (c .before .before .before .before .before .before .before .before .before .before .before .before .before .before .kind-of .ensures) (no-kind (c .before .before .before .before .before .before .before .before .before .before .before .before .before .before .kind-of .result) (c .before .before .before .before .before .before .before .before .before .before .before .match .rest .0 .0 .0 .0 .0 .0 .0 .0 .0 .0 .1) (c .before .before .before .before .before .before .before .before .before .before .before .match .rest .0 .0 .0 .0 .0 .0 .0 .0 .0 .1) (c .before .before .before .before .before .before .before .before .before .before .before .match .rest .0 .0 .0 .0 .0 .0 .0 .0 .1) (c .before .before .before .before .before .before .before .before .before .before .before .match .rest .0 .0 .0 .0 .0 .0 .0 .1) (c .before .before .before .before .before .before .before .before .before .before .before .match .rest .0 .0 .0 .0 .0 .0 .1) (c .before .before .before .before .before .before .before .before .before .before .before .match .rest .0 .0 .0 .0 .0 .1) (c .before .before .before .before .before .before .before .before .before .before .before .match .rest .0 .0 .0 .0 .1) (c .before .before .before .before .before .before .before .before .before .before .before .match .rest .0 .0 .0 .1) (c .before .before .before .before .before .before .before .before .before .before .before .match .rest .0 .0 .1) (c .before .before .before .before .before .before .before .before .before .before .before .match .rest .0 .1) (c .before .before .before .before .before .before .before .before .before .before .before .match .rest .1))) (c .before .before .before .before .before .before .note-none6 .ensures)
+returns-12 c = let s = c .before .before .before .before .before .before .before .before .before .before .before .before .before .before .before .before .before .before .before in absurd (not-known (s .args .nodes .now) (s .args .at) _ (s .pre .2) (c .before .before .before .before .before .before .before .before .before .before .before .before .before .before .kind-of .ensures) (above-ten (c .before .before .before .before .before .before .before .before .before .before .before .before .before .before .kind-of .result) (c .before .before .before .before .before .before .before .before .before .before .before .match .rest .0 .0 .0 .0 .0 .0 .0 .0 .0 .0 .1) (c .before .before .before .before .before .before .before .before .before .before .before .match .rest .0 .0 .0 .0 .0 .0 .0 .0 .0 .1) (c .before .before .before .before .before .before .before .before .before .before .before .match .rest .0 .0 .0 .0 .0 .0 .0 .0 .1) (c .before .before .before .before .before .before .before .before .before .before .before .match .rest .0 .0 .0 .0 .0 .0 .0 .1) (c .before .before .before .before .before .before .before .before .before .before .before .match .rest .0 .0 .0 .0 .0 .0 .1) (c .before .before .before .before .before .before .before .before .before .before .before .match .rest .0 .0 .0 .0 .0 .1) (c .before .before .before .before .before .before .before .before .before .before .before .match .rest .0 .0 .0 .0 .1) (c .before .before .before .before .before .before .before .before .before .before .before .match .rest .0 .0 .0 .1) (c .before .before .before .before .before .before .before .before .before .before .before .match .rest .0 .0 .1) (c .before .before .before .before .before .before .before .before .before .before .before .match .rest .0 .1) (c .before .before .before .before .before .before .before .before .before .before .before .match .rest .1)))
 
 same-length-37 : tie.Need-same-length-37
 same-length-37 c = search needs
@@ -268,12 +267,10 @@ same-length-39 : tie.Need-same-length-39
 same-length-39 c = search needs
 
 returns-13 : tie.Need-returns-13
-returns-13 c =
-    let s = c .before .before .before .before .before .before .before .before .before .before .before .before .before .before .before .before .before .before .before in
-    mark-unused (s .pre .0) (s .pre .2) (let e = c .before .before .before .before .before .before .before .before .before .before .before .before .before .before .kind-of .ensures in omega (arith, c .before .before .before .before .before .before .before .before .before .before .if1 .left)) (c .before .before .before .before .before .before .note-none7 .ensures)
+returns-13 c = let s = c .before .before .before .before .before .before .before .before .before .before .before .before .before .before .before .before .before .before .before in absurd (not-known (s .args .nodes .now) (s .args .at) _ (s .pre .2) (c .before .before .before .before .before .before .before .before .before .before .before .before .before .before .kind-of .ensures) (omega (arith, c .before .before .before .before .before .before .before .before .before .before .if1 .left)))
 
-pub mark-at-spec : {M : Type 1} → statement M
-mark-at-spec =
+pub note-at-spec : {M : Type 1} → statement M
+note-at-spec =
     tie.close
     (tie.spec
     mul-node
@@ -292,8 +289,8 @@ mark-at-spec =
     note-two-requires-3
     note-one-requires
     note-one-requires-2
-    note-none-requires-6
-    note-none-requires-7
+    note-refused-requires
+    note-refused-requires-2
     same-length
     same-length-2
     same-length-3
