@@ -68,12 +68,11 @@ loop-again c =
     let at-join = at-put .before .before in
     let at-loop-test = at-join .before .before .before in
     let at-loop = at-loop-test .before in
-    let s = at-loop .before .before in
-    (
-  omega arith,
-  joins-step (s .args .how) (s .args .w) (s .args .l) (s .args .area .now) (s .args .mid) (s .args .n2) (s .args .top) (s .args .n) (at-loop .loop .area) _ (at-loop .loop .j) (at-loop .loop .inv .1) (s .pre .1)
-  (at-loop-test .loop-test .taken) _ (at-join .join .ensures) _ _ (at-put .put .ensures .made) (c .if1 .left),
-)
+    let s = at-loop .before .before in (
+      omega arith,
+      joins-step (s .args .how) (s .args .w) (s .args .l) (s .args .area .now) (s .args .mid) (s .args .n2) (s .args .top) (s .args .n) (at-loop .loop .area) _ (at-loop .loop .j) (at-loop .loop .inv .1) (s .pre .1)
+          (at-loop-test .loop-test .taken) _ (at-join .join .ensures) _ _ (at-put .put .ensures .made) (c .if1 .left),
+    )
 
 same-length-2 : tie.Need-same-length-2 Inv-loop μ-loop
 same-length-2 c = omega arith

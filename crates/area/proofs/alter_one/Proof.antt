@@ -39,9 +39,11 @@ word-of-requires : tie.Need-word-of-requires
 word-of-requires c κs =
     let at-without = c .before .before in
     let at-emitted-in = at-without .before .before .before in
-    let at-change = at-emitted-in .before .before in
-    (omega (arith, at-without .without .ensures, minus-below 56 (at-emitted-in .emitted-in .result) (only (at-change .change .given .0 .0)) (omega (arith, at-emitted-in .emitted-in .ensures))), omega
-    (arith, c .code-in .ensures))
+    let at-change = at-emitted-in .before .before in (
+      omega (arith, at-without .without .ensures, minus-below 56 (at-emitted-in .emitted-in .result) (only (at-change .change .given .0 .0)) (omega (arith, at-emitted-in .emitted-in .ensures))),
+      omega
+          (arith, c .code-in .ensures),
+    )
 
 put-requires : tie.Need-put-requires
 put-requires c κs = search needs

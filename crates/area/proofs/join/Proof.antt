@@ -46,8 +46,11 @@ word-of-requires-2 c κs =
     let at-code-in3 = at-larger-code .before in
     let at-code-in2 = at-code-in3 .before in
     let s = at-code-in2 .before .before .before in
-    let b = or-lt 64 (s .args .w) (s .args .v) (omega arith) (omega arith) in (omega (arith, c .emitted-in2 .ensures), omega
-    (arith, at-larger-code .larger-code .ensures, at-code-in2 .code-in2 .ensures, at-code-in3 .code-in3 .ensures))
+    let b = or-lt 64 (s .args .w) (s .args .v) (omega arith) (omega arith) in (
+      omega (arith, c .emitted-in2 .ensures),
+      omega
+          (arith, at-larger-code .larger-code .ensures, at-code-in2 .code-in2 .ensures, at-code-in3 .code-in3 .ensures),
+    )
 
 returns : tie.Need-returns
 returns c = join-sequence _ _ _ _ _ _ _ _ (c .before .before .before .enum-told .given .1) (c .before .before .emitted-in .ensures) (c .before .code-in .ensures) (c .word-of .ensures)

@@ -73,9 +73,12 @@ loop-again c =
     let at-first = at-if1 .before in
     let at-loop = at-first .before .before .before in
     let s = at-loop .before .before in
-    let h = at-first .first .ensures .0 (at-if1 .if1 .taken) in
-    (omega arith, omega arith, first-step (s .args .area .now) (s .args .base) (s .args .n1) (s .args .n2) (at-loop .loop .area) _ (at-loop .loop .i) (at-loop .loop .j) (at-loop .loop .inv .2) h _ _
-    (at-carry .carry .ensures) (c .if2 .left))
+    let h = at-first .first .ensures .0 (at-if1 .if1 .taken) in (
+      omega arith,
+      omega arith,
+      first-step (s .args .area .now) (s .args .base) (s .args .n1) (s .args .n2) (at-loop .loop .area) _ (at-loop .loop .i) (at-loop .loop .j) (at-loop .loop .inv .2) h _ _
+          (at-carry .carry .ensures) (c .if2 .left),
+    )
 
 mul-carry-2 : tie.Need-mul-carry-2 Inv-loop μ-loop
 mul-carry-2 c = omega arith
@@ -112,9 +115,12 @@ loop-again-2 c =
     let at-first = at-if1 .before in
     let at-loop = at-first .before .before .before in
     let s = at-loop .before .before in
-    let h = at-first .first .ensures .1 (at-if1 .if1 .left) in
-    (omega arith, omega arith, second-step (s .args .area .now) (s .args .base) (s .args .n1) (s .args .n2) (at-loop .loop .area) _ (at-loop .loop .i) (at-loop .loop .j) (at-loop .loop .inv .2) h _ _
-    (at-carry2 .carry2 .ensures) (c .if3 .left))
+    let h = at-first .first .ensures .1 (at-if1 .if1 .left) in (
+      omega arith,
+      omega arith,
+      second-step (s .args .area .now) (s .args .base) (s .args .n1) (s .args .n2) (at-loop .loop .area) _ (at-loop .loop .i) (at-loop .loop .j) (at-loop .loop .inv .2) h _ _
+          (at-carry2 .carry2 .ensures) (c .if3 .left),
+    )
 
 lower-requires : tie.Need-lower-requires Inv-loop μ-loop
 lower-requires c κs = let f = c .before .before .loop .inv .2 in (omega arith, omega (arith, f .same, f .fits))

@@ -34,10 +34,12 @@ deliver-requires c κs =
     let at-answer = c .before .before .before .before .before in
     let at-find = at-answer .before .before .before .before in
     let past15 = at-find .before .before .before .before .before .before in
-    let s = past15 .before in
-    (count-fits (tableOf (s .args .table .now)) (s .args .assumed) (s .args .mark) (s .args .labels) (at-find .find .result) (s .args .area .now) _ (at-find .find .ensures) (at-answer .answer .given .0 .0)
-    (at-answer .answer .given .1) (s .pre), count-small (tableOf (s .args .table .now)) (s .args .assumed) (s .args .mark) (s .args .labels) (at-find .find .result) (s .args .area .now) _ (at-find .find .ensures)
-    (at-answer .answer .given .0 .0) (at-answer .answer .given .1) (search needs))
+    let s = past15 .before in (
+      count-fits (tableOf (s .args .table .now)) (s .args .assumed) (s .args .mark) (s .args .labels) (at-find .find .result) (s .args .area .now) _ (at-find .find .ensures) (at-answer .answer .given .0 .0)
+          (at-answer .answer .given .1) (s .pre),
+      count-small (tableOf (s .args .table .now)) (s .args .assumed) (s .args .mark) (s .args .labels) (at-find .find .result) (s .args .area .now) _ (at-find .find .ensures)
+          (at-answer .answer .given .0 .0) (at-answer .answer .given .1) (search needs),
+    )
 
 same-length-2 : tie.Need-same-length-2
 same-length-2 c = search needs

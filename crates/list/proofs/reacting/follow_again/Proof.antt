@@ -60,9 +60,12 @@ returns-2 c =
     let at-some-ends = at-if1 .before in
     let s = at-some-ends .before .before .before in
     let h = ending-small (at-some-ends .some-ends .ensures .1) (not-false _ (at-if1 .if1 .left)) in
-    record { small = λ k. followed-by (standing-made (s .pre .0) h) _ (at-some-ends .some-ends .ensures) (not-false _ (at-if1 .if1 .left))
-    (altered Going (made-need (s .args .base + 128 + roomFor (partAt (s .args .nodes .now) (s .args .at))) (at-start .start .ensures) (omega (arith, h))) (at-alter .alter .ensures)) (omega arith)
-    (at-product .product .ensures); large = λ k. absurd (omega (arith, h)) }
+    record {
+      small = λ k. followed-by (standing-made (s .pre .0) h) _ (at-some-ends .some-ends .ensures) (not-false _ (at-if1 .if1 .left))
+          (altered Going (made-need (s .args .base + 128 + roomFor (partAt (s .args .nodes .now) (s .args .at))) (at-start .start .ensures) (omega (arith, h))) (at-alter .alter .ensures)) (omega arith)
+          (at-product .product .ensures);
+      large = λ k. absurd (omega (arith, h));
+    }
 
 pub follow-again-spec : {M : Type 1} → statement M
 follow-again-spec =

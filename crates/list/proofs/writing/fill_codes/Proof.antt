@@ -51,9 +51,11 @@ loop-again c =
     let at-loop-test = at-code-in .before .before in
     let at-loop = at-loop-test .before in
     let s = at-loop .before .before .before in
-    let a = s .args in
-    (omega arith, filled-step (map codeIn (rows (a .area .now) 0 (a .n))) (a .k .now) (at-loop .loop .k) (at-loop .loop .i) _ (at-loop .loop .inv .1) (omega (arith, s .pre .1))
-    (at-code-in .code-in .ensures ∙ codes-at (a .area .now) (a .n) (at-loop .loop .i) (at-loop-test .loop-test .taken)))
+    let a = s .args in (
+      omega arith,
+      filled-step (map codeIn (rows (a .area .now) 0 (a .n))) (a .k .now) (at-loop .loop .k) (at-loop .loop .i) _ (at-loop .loop .inv .1) (omega (arith, s .pre .1))
+          (at-code-in .code-in .ensures ∙ codes-at (a .area .now) (a .n) (at-loop .loop .i) (at-loop-test .loop-test .taken)),
+    )
 
 same-length : tie.Need-same-length Inv-loop μ-loop
 same-length c = c .before .loop .inv .1 .same

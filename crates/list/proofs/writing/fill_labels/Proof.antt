@@ -45,9 +45,11 @@ loop-again : tie.Need-loop-again Inv-loop μ-loop
 loop-again c =
     let at-loop-test = c .before in
     let at-loop = at-loop-test .before in
-    let s = at-loop .before in
-    (omega arith, filled-step (map reachedIn (rows (s .args .area .now) 0 (s .args .n))) (s .args .l .now) (at-loop .loop .l) (at-loop .loop .i) _ (at-loop .loop .inv .1) (omega (arith, s .pre .1))
-    (labels-at (s .args .area .now) (s .args .n) (at-loop .loop .i) (at-loop-test .loop-test .taken)))
+    let s = at-loop .before in (
+      omega arith,
+      filled-step (map reachedIn (rows (s .args .area .now) 0 (s .args .n))) (s .args .l .now) (at-loop .loop .l) (at-loop .loop .i) _ (at-loop .loop .inv .1) (omega (arith, s .pre .1))
+          (labels-at (s .args .area .now) (s .args .n) (at-loop .loop .i) (at-loop-test .loop-test .taken)),
+    )
 
 same-length : tie.Need-same-length Inv-loop μ-loop
 same-length c = c .before .loop .inv .1 .same

@@ -17,9 +17,11 @@ abbrev μ-loop : tie.MeasureT-loop
 
 loop-holds : tie.Need-loop-holds Inv-loop μ-loop
 loop-holds c =
-    let s = c .before .before in
-    (omega arith, subst (λ (z : ℕ). Filled (spread 8 (map reachedIn (rows (s .args .area .now) 0 (s .args .n)))) (s .args .l .now) (s .args .l .now) z) (omega arith)
-    (filled-none (spread 8 (map reachedIn (rows (s .args .area .now) 0 (s .args .n)))) (s .args .l .now)))
+    let s = c .before .before in (
+      omega arith,
+      subst (λ (z : ℕ). Filled (spread 8 (map reachedIn (rows (s .args .area .now) 0 (s .args .n)))) (s .args .l .now) (s .args .l .now) z) (omega arith)
+          (filled-none (spread 8 (map reachedIn (rows (s .args .area .now) 0 (s .args .n)))) (s .args .l .now)),
+    )
 
 mul-put-bytes : tie.Need-mul-put-bytes Inv-loop μ-loop
 mul-put-bytes c = omega arith
@@ -53,9 +55,11 @@ loop-again c =
     let s = at-loop .before .before .before in
     let a = s .args in
     let l = fields-length reachedIn (a .area .now) 0 (a .n) in
-    let t = at-loop-test .loop-test .taken in
-    (omega arith, filled-bytes 8 (map reachedIn (rows (a .area .now) 0 (a .n))) (a .l .now) (at-loop .loop .l) _ (at-loop .loop .i) _ (at-loop .loop .inv .1) (omega arith)
-    (labels-at (a .area .now) (a .n) (at-loop .loop .i) t) (omega (arith, s .pre .1)) (at-put-bytes .put-bytes .ensures))
+    let t = at-loop-test .loop-test .taken in (
+      omega arith,
+      filled-bytes 8 (map reachedIn (rows (a .area .now) 0 (a .n))) (a .l .now) (at-loop .loop .l) _ (at-loop .loop .i) _ (at-loop .loop .inv .1) (omega arith)
+          (labels-at (a .area .now) (a .n) (at-loop .loop .i) t) (omega (arith, s .pre .1)) (at-put-bytes .put-bytes .ensures),
+    )
 
 same-length : tie.Need-same-length Inv-loop μ-loop
 same-length c = c .before .loop .inv .1 .same

@@ -18,9 +18,11 @@ abbrev μ-loop : tie.MeasureT-loop
 
 loop-holds : tie.Need-loop-holds Inv-loop μ-loop
 loop-holds c =
-    let s = c .before .before in
-    (omega arith, subst (λ (z : ℕ). Filled (spread 4 (map emittedIn (rows (s .args .area .now) 0 (s .args .n)))) (s .args .o .now) (s .args .o .now) z) (omega arith)
-    (filled-none (spread 4 (map emittedIn (rows (s .args .area .now) 0 (s .args .n)))) (s .args .o .now)))
+    let s = c .before .before in (
+      omega arith,
+      subst (λ (z : ℕ). Filled (spread 4 (map emittedIn (rows (s .args .area .now) 0 (s .args .n)))) (s .args .o .now) (s .args .o .now) z) (omega arith)
+          (filled-none (spread 4 (map emittedIn (rows (s .args .area .now) 0 (s .args .n)))) (s .args .o .now)),
+    )
 
 mul-put-bytes : tie.Need-mul-put-bytes Inv-loop μ-loop
 mul-put-bytes c = omega arith
@@ -58,9 +60,11 @@ loop-again c =
     let s = at-loop .before .before .before in
     let a = s .args in
     let l = fields-length emittedIn (a .area .now) 0 (a .n) in
-    let t = at-loop-test .loop-test .taken in
-    (omega arith, filled-bytes 4 (map emittedIn (rows (a .area .now) 0 (a .n))) (a .o .now) (at-loop .loop .o) _ (at-loop .loop .i) _ (at-loop .loop .inv .1) (omega arith)
-    (at-emitted-in .emitted-in .ensures ∙ signals-at (a .area .now) (a .n) (at-loop .loop .i) t) (omega (arith, s .pre .1)) (at-put-bytes .put-bytes .ensures))
+    let t = at-loop-test .loop-test .taken in (
+      omega arith,
+      filled-bytes 4 (map emittedIn (rows (a .area .now) 0 (a .n))) (a .o .now) (at-loop .loop .o) _ (at-loop .loop .i) _ (at-loop .loop .inv .1) (omega arith)
+          (at-emitted-in .emitted-in .ensures ∙ signals-at (a .area .now) (a .n) (at-loop .loop .i) t) (omega (arith, s .pre .1)) (at-put-bytes .put-bytes .ensures),
+    )
 
 same-length : tie.Need-same-length Inv-loop μ-loop
 same-length c = c .before .loop .inv .1 .same
