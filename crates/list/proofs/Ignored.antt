@@ -17,12 +17,11 @@ use Rattle.list.specs.Answers.{stateOf, refused, listed, listFor, listIn
 -- "label bits without a pause, bit 0 among them, are ignored in a state"
 pub labels-ignored : (t : List ℕ) (n : ℕ) (p : Statement) → tableOf t ≡ table.holds n p → (E mark X Y o k l : ℕ) → X intersect pauses p ≡ Y intersect pauses p
     → listOf t E mark X o k l ≡ listOf t E mark Y o k l
-unfolding listOf listIn
+unfolding listOf listIn stateOf listFor listing
 labels-ignored t n p h E mark X Y o k l e =
     ap (fitted o k l) (ap (λ (T : Table). listIn T E mark X) h ∙ same mark ∙ sym (ap (λ (T : Table). listIn T E mark Y) h))
   where
     same : (m : ℕ) → listFor p (stateOf m X) E ≡ listFor p (stateOf m Y) E
-    unfolding stateOf listFor listing
     same zero = refl
     same (suc m) =
         let f = agree-intersect (pauses p) X Y e in
@@ -30,10 +29,9 @@ labels-ignored t n p h E mark X Y o k l e =
 
 -- "0 the start, whose label set is then ignored"
 pub start-ignores : (t : List ℕ) (E X Y o k l : ℕ) → listOf t E 0 X o k l ≡ listOf t E 0 Y o k l
-unfolding listOf
+unfolding listOf listIn stateOf
 start-ignores t E X Y o k l = ap (fitted o k l) (same (tableOf t))
   where
     same : (T : Table) → listIn T E 0 X ≡ listIn T E 0 Y
-    unfolding listIn stateOf
     same (table.refused w) = refl
     same (table.holds n p) = refl

@@ -61,10 +61,10 @@ module _ (t : List ℕ) (E mark X o k l : ℕ) where
 
   -- a returned 0 means that the reactions are listed
   pub zero-listed : numberOf (listingOutcome (listOf t E mark X o k l)) ≡ 0 → (ts : List Reaction) × (listOf t E mark X o k l ≡ listed ts)
+  unfolding numberOf listingOutcome
   zero-listed z = go (listOf t E mark X o k l) all-refusals z
     where
       go : (v : Listing) → Refuses v → numberOf (listingOutcome v) ≡ 0 → (ts : List Reaction) × (v ≡ listed ts)
-      unfolding numberOf listingOutcome
       go (refused w) (inl b) z = absurd (omega arith)
       go (refused w) (inr b) z = absurd (omega arith)
       go (listed ts) b z = (ts, refl)

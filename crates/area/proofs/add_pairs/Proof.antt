@@ -32,28 +32,44 @@ same-length : tie.Need-same-length
 same-length c = search needs
 
 returns : tie.Need-returns
-returns c = let a = c .before .before .before .before .before .before .before .before .before .args in
-    made-as (c .before .before .add-joined .ensures)
+returns c =
+    let at-add-joined = c .before .before in
+    let at-if1 = at-add-joined .before .before in
+    let at-ends = at-if1 .before in
+    let at-enum-told = at-ends .before in
+    let s = at-enum-told .before .before .before in
+    let a = s .args in
+    made-as (at-add-joined .add-joined .ensures)
     (ap (λ (z : List Reaction). collect (z ++ rows (a .area .now) (a .top) (a .n)))
-    (pairs-joined (a .how) (rows (a .area .now) (a .mid) (a .n2)) (a .w) (a .l) (inl (c .before .before .before .before .before .before .enum-told .given .1, c .before .before .before .before .before .ends .ensures .0 (c .before .before .before .before .if1 .taken)))))
+    (pairs-joined (a .how) (rows (a .area .now) (a .mid) (a .n2)) (a .w) (a .l) (inl (at-enum-told .enum-told .given .1, at-ends .ends .ensures .0 (at-if1 .if1 .taken)))))
 
 same-length-2 : tie.Need-same-length-2
 same-length-2 c = search needs
 
 returns-2 : tie.Need-returns-2
-returns-2 c = let a = c .before .before .before .before .before .before .before .before .before .args in
-    made-as (c .before .before .put .ensures .made)
+returns-2 c =
+    let at-put = c .before .before in
+    let at-if1 = at-put .before .before in
+    let at-ends = at-if1 .before in
+    let at-enum-told = at-ends .before in
+    let s = at-enum-told .before .before .before in
+    let a = s .args in
+    made-as (at-put .put .ensures .made)
     (ap (λ (z : List Reaction). collect (z ++ rows (a .area .now) (a .top) (a .n)))
-    (pairs-alone (a .how) (rows (a .area .now) (a .mid) (a .n2)) (a .w) (a .l) (c .before .before .before .before .before .before .enum-told .given .1) (c .before .before .before .before .before .ends .ensures .1 (c .before .before .before .before .if1 .left))))
+    (pairs-alone (a .how) (rows (a .area .now) (a .mid) (a .n2)) (a .w) (a .l) (at-enum-told .enum-told .given .1) (at-ends .ends .ensures .1 (at-if1 .if1 .left))))
 
 same-length-3 : tie.Need-same-length-3
 same-length-3 c = search needs
 
 returns-3 : tie.Need-returns-3
-returns-3 c = let a = c .before .before .before .before .before .before .before .args in
-    made-as (c .before .before .add-joined2 .ensures)
+returns-3 c =
+    let at-add-joined2 = c .before .before in
+    let at-enum-told2 = at-add-joined2 .before .before in
+    let s = at-enum-told2 .before .before .before in
+    let a = s .args in
+    made-as (at-add-joined2 .add-joined2 .ensures)
     (ap (λ (z : List Reaction). collect (z ++ rows (a .area .now) (a .top) (a .n)))
-    (pairs-joined (a .how) (rows (a .area .now) (a .mid) (a .n2)) (a .w) (a .l) (inr (c .before .before .before .before .enum-told2 .given .1))))
+    (pairs-joined (a .how) (rows (a .area .now) (a .mid) (a .n2)) (a .w) (a .l) (inr (at-enum-told2 .enum-told2 .given .1))))
 
 pub add-pairs-spec : {M : Type 1} → statement M
 add-pairs-spec =

@@ -34,7 +34,12 @@ ends-requires : tie.Need-ends-requires Inv-loop μ-loop
 ends-requires c κs = tt
 
 returns : tie.Need-returns Inv-loop μ-loop
-returns c = let a = c .before .before .before .before .before .before .args in ends-here (a .area .now) (a .base) (a .n) (c .before .before .before .before .loop .i) (c .before .before .before .before .loop .inv) (c .before .before .before .loop-test .taken) (c .before .ends .ensures .0 (c .if1 .taken))
+returns c =
+    let at-ends = c .before in
+    let at-loop-test = at-ends .before .before in
+    let at-loop = at-loop-test .before in
+    let s = at-loop .before .before in
+    let a = s .args in ends-here (a .area .now) (a .base) (a .n) (at-loop .loop .i) (at-loop .loop .inv) (at-loop-test .loop-test .taken) (at-ends .ends .ensures .0 (c .if1 .taken))
 
 add-i : tie.Need-add-i Inv-loop μ-loop
 add-i c = omega arith
@@ -43,7 +48,12 @@ loop-less : tie.Need-loop-less Inv-loop μ-loop
 loop-less c = omega arith
 
 loop-again : tie.Need-loop-again Inv-loop μ-loop
-loop-again c = let a = c .before .before .before .before .before .before .args in ends-next (a .area .now) (a .base) (a .n) (c .before .before .before .before .loop .i) (c .before .before .before .before .loop .inv) (c .before .before .before .loop-test .taken) (c .before .ends .ensures .1 (c .if1 .left))
+loop-again c =
+    let at-ends = c .before in
+    let at-loop-test = at-ends .before .before in
+    let at-loop = at-loop-test .before in
+    let s = at-loop .before .before in
+    let a = s .args in ends-next (a .area .now) (a .base) (a .n) (at-loop .loop .i) (at-loop .loop .inv) (at-loop-test .loop-test .taken) (at-ends .ends .ensures .1 (c .if1 .left))
 
 returns-2 : tie.Need-returns-2 Inv-loop μ-loop
 returns-2 c = let a = c .before .before .before .args in ends-not (a .area .now) (a .base) (a .n) (c .before .loop .i) (c .before .loop .inv) (c .loop-test .left)

@@ -24,17 +24,21 @@ sub-at c = omega arith
 
 note-at-requires : tie.Need-note-at-requires Inv-loop μ-loop
 note-at-requires c κs =
-    let v = c .before .before .before .before .loop .inv in
-    (omega (arith, v .0, v .1), omega (arith, v .1, c .before .before .before .before .before .before .before .before .pre .0), c .before .before .before .before .before .before .before .before .pre .1, noted-as (omega arith) (sym (v .1)) (v .4))
+    let at-loop = c .before .before .before .before in
+    let s = at-loop .before .before .before .before in
+    let v = at-loop .loop .inv in
+    (omega (arith, v .0, v .1), omega (arith, v .1, s .pre .0), s .pre .1, noted-as (omega arith) (sym (v .1)) (v .4))
 
 loop-less : tie.Need-loop-less Inv-loop μ-loop
 loop-less c = omega arith
 
 loop-again : tie.Need-loop-again Inv-loop μ-loop
 loop-again c =
-    let v = c .before .before .before .before .before .before .before .before .before .before .before .loop .inv in
-    let k = c .before .before .before .before .before .before .note-at .kept in
-    (omega arith, k .1 .0 ∙ v .1, k .1 .1 .0 ∙ v .2, k .1 .1 .1 .0 ∙ v .3, noted-as refl (v .1) (c .before .before .before .before .before .before .note-at .ensures))
+    let at-note-at = c .before .before .before .before .before .before in
+    let at-loop = at-note-at .before .before .before .before .before in
+    let v = at-loop .loop .inv in
+    let k = at-note-at .note-at .kept in
+    (omega arith, k .1 .0 ∙ v .1, k .1 .1 .0 ∙ v .2, k .1 .1 .1 .0 ∙ v .3, noted-as refl (v .1) (at-note-at .note-at .ensures))
 
 same-length : tie.Need-same-length Inv-loop μ-loop
 same-length c = c .before .loop .inv .1

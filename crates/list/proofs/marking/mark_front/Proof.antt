@@ -47,8 +47,11 @@ same-length-3 c = search needs
 
 returns : tie.Need-returns
 returns c =
-    let s = c .before .before .before .before .before .before .before .before .before .before .before .before .before in
-    more-room (drop (s .args .count) (s .args .ends .now)) (drop (s .args .count) (s .args .nests .now)) (drop (s .args .count) (s .args .pauses .now)) (noted-as refl (length-take-le (s .args .count) (s .args .ends .now) (s .pre .2)) (c .before .before .before .before .before .before .mark .ensures))
+    let at-mark = c .before .before .before .before .before .before in
+    let past12 = at-mark .before .before .before .before .before .before in
+    let s = past12 .before in
+    more-room (drop (s .args .count) (s .args .ends .now)) (drop (s .args .count) (s .args .nests .now)) (drop (s .args .count) (s .args .pauses .now))
+    (noted-as refl (length-take-le (s .args .count) (s .args .ends .now) (s .pre .2)) (at-mark .mark .ensures))
 
 pub mark-front-spec : {M : Type 1} → statement M
 mark-front-spec =

@@ -27,8 +27,12 @@ same-length : tie.Need-same-length
 same-length c = search needs
 
 returns-2 : tie.Need-returns-2
-returns-2 c = let s = c .before .before .before .before .before .before .before in
-    made-need (s .args .base + 2) (made-as (c .before .before .one .ensures) (ap (λ (y : Reaction). some (one y)) (packed-word _ (s .args .o) (s .args .code .0) (s .args .l) (c .before .before .before .word-of .ensures) (s .pre .2)))) (omega arith)
+returns-2 c =
+    let at-one = c .before .before in
+    let at-word-of = at-one .before in
+    let s = at-word-of .before .before .before .before in
+    made-need (s .args .base + 2) (made-as (at-one .one .ensures) (ap (λ (y : Reaction). some (one y)) (packed-word _ (s .args .o) (s .args .code .0) (s .args .l) (at-word-of .word-of .ensures) (s .pre .2))))
+    (omega arith)
 
 pub alone-spec : {M : Type 1} → statement M
 alone-spec =

@@ -34,7 +34,10 @@ cast-k : tie.Need-cast-k Inv-loop μ-loop
 cast-k c = omega (arith, c .before .code-in .ensures)
 
 slice-write-k : tie.Need-slice-write-k Inv-loop μ-loop
-slice-write-k c = omega (arith, c .before .before .before .before .loop .inv .1 .same, c .before .before .before .before .before .before .before .pre .1)
+slice-write-k c =
+    let at-loop = c .before .before .before .before in
+    let s = at-loop .before .before .before in
+    omega (arith, at-loop .loop .inv .1 .same, s .pre .1)
 
 add-i : tie.Need-add-i Inv-loop μ-loop
 add-i c = omega arith
@@ -43,16 +46,27 @@ loop-less : tie.Need-loop-less Inv-loop μ-loop
 loop-less c = omega arith
 
 loop-again : tie.Need-loop-again Inv-loop μ-loop
-loop-again c = let a = c .before .before .before .before .before .before .before .args in
-    (omega arith, filled-step (map codeIn (rows (a .area .now) 0 (a .n))) (a .k .now) (c .before .before .before .before .loop .k) (c .before .before .before .before .loop .i) _ (c .before .before .before .before .loop .inv .1) (omega (arith, c .before .before .before .before .before .before .before .pre .1))
-    (c .before .code-in .ensures ∙ codes-at (a .area .now) (a .n) (c .before .before .before .before .loop .i) (c .before .before .before .loop-test .taken)))
+loop-again c =
+    let at-code-in = c .before in
+    let at-loop-test = at-code-in .before .before in
+    let at-loop = at-loop-test .before in
+    let s = at-loop .before .before .before in
+    let a = s .args in (
+      omega arith,
+      filled-step (map codeIn (rows (a .area .now) 0 (a .n))) (a .k .now) (at-loop .loop .k) (at-loop .loop .i) _ (at-loop .loop .inv .1) (omega (arith, s .pre .1))
+          (at-code-in .code-in .ensures ∙ codes-at (a .area .now) (a .n) (at-loop .loop .i) (at-loop-test .loop-test .taken)),
+    )
 
 same-length : tie.Need-same-length Inv-loop μ-loop
 same-length c = c .before .loop .inv .1 .same
 
 returns : tie.Need-returns Inv-loop μ-loop
-returns c = let l = fields-length codeIn (c .before .before .before .before .args .area .now) 0 (c .before .before .before .before .args .n) in
-    filled-all (map codeIn (rows (c .before .before .before .before .args .area .now) 0 (c .before .before .before .before .args .n))) (c .before .before .before .before .args .k .now) (c .before .loop .k) (c .before .loop .i) (c .before .loop .inv .1) (omega (arith, c .before .loop .inv .0, c .loop-test .left)) (omega (arith, c .before .before .before .before .pre .1))
+returns c =
+    let at-loop = c .before in
+    let s = at-loop .before .before .before in
+    let l = fields-length codeIn (s .args .area .now) 0 (s .args .n) in
+    filled-all (map codeIn (rows (s .args .area .now) 0 (s .args .n))) (s .args .k .now) (at-loop .loop .k) (at-loop .loop .i) (at-loop .loop .inv .1) (omega (arith, at-loop .loop .inv .0, c .loop-test .left))
+    (omega (arith, s .pre .1))
 
 pub fill-codes-spec : {M : Type 1} → statement M
 fill-codes-spec =

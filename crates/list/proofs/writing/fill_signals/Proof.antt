@@ -46,16 +46,26 @@ loop-less : tie.Need-loop-less Inv-loop μ-loop
 loop-less c = omega arith
 
 loop-again : tie.Need-loop-again Inv-loop μ-loop
-loop-again c = let a = c .before .before .before .before .before .before .args in
-    (omega arith, filled-step (map emittedIn (rows (a .area .now) 0 (a .n))) (a .o .now) (c .before .before .before .loop .o) (c .before .before .before .loop .i) _ (c .before .before .before .loop .inv .1) (omega (arith, c .before .before .before .before .before .before .pre .1))
-    (c .emitted-in .ensures ∙ signals-at (a .area .now) (a .n) (c .before .before .before .loop .i) (c .before .before .loop-test .taken)))
+loop-again c =
+    let at-loop-test = c .before .before in
+    let at-loop = at-loop-test .before in
+    let s = at-loop .before .before .before in
+    let a = s .args in (
+      omega arith,
+      filled-step (map emittedIn (rows (a .area .now) 0 (a .n))) (a .o .now) (at-loop .loop .o) (at-loop .loop .i) _ (at-loop .loop .inv .1) (omega (arith, s .pre .1))
+          (c .emitted-in .ensures ∙ signals-at (a .area .now) (a .n) (at-loop .loop .i) (at-loop-test .loop-test .taken)),
+    )
 
 same-length : tie.Need-same-length Inv-loop μ-loop
 same-length c = c .before .loop .inv .1 .same
 
 returns : tie.Need-returns Inv-loop μ-loop
-returns c = let l = fields-length emittedIn (c .before .before .before .before .args .area .now) 0 (c .before .before .before .before .args .n) in
-    filled-all (map emittedIn (rows (c .before .before .before .before .args .area .now) 0 (c .before .before .before .before .args .n))) (c .before .before .before .before .args .o .now) (c .before .loop .o) (c .before .loop .i) (c .before .loop .inv .1) (omega (arith, c .before .loop .inv .0, c .loop-test .left)) (omega (arith, c .before .before .before .before .pre .1))
+returns c =
+    let at-loop = c .before in
+    let s = at-loop .before .before .before in
+    let l = fields-length emittedIn (s .args .area .now) 0 (s .args .n) in
+    filled-all (map emittedIn (rows (s .args .area .now) 0 (s .args .n))) (s .args .o .now) (at-loop .loop .o) (at-loop .loop .i) (at-loop .loop .inv .1) (omega (arith, at-loop .loop .inv .0, c .loop-test .left))
+    (omega (arith, s .pre .1))
 
 pub fill-signals-spec : {M : Type 1} → statement M
 fill-signals-spec =

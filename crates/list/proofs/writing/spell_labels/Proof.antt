@@ -16,7 +16,12 @@ abbrev μ-loop : tie.MeasureT-loop
 μ-loop area n l₀ i₀ l i = n - i
 
 loop-holds : tie.Need-loop-holds Inv-loop μ-loop
-loop-holds c = (omega arith, subst (λ (z : ℕ). Filled (spread 8 (map reachedIn (rows (c .before .before .args .area .now) 0 (c .before .before .args .n)))) (c .before .before .args .l .now) (c .before .before .args .l .now) z) (omega arith) (filled-none (spread 8 (map reachedIn (rows (c .before .before .args .area .now) 0 (c .before .before .args .n)))) (c .before .before .args .l .now)))
+loop-holds c =
+    let s = c .before .before in (
+      omega arith,
+      subst (λ (z : ℕ). Filled (spread 8 (map reachedIn (rows (s .args .area .now) 0 (s .args .n)))) (s .args .l .now) (s .args .l .now) z) (omega arith)
+          (filled-none (spread 8 (map reachedIn (rows (s .args .area .now) 0 (s .args .n)))) (s .args .l .now)),
+    )
 
 mul-put-bytes : tie.Need-mul-put-bytes Inv-loop μ-loop
 mul-put-bytes c = omega arith
@@ -43,19 +48,30 @@ loop-less : tie.Need-loop-less Inv-loop μ-loop
 loop-less c = omega arith
 
 loop-again : tie.Need-loop-again Inv-loop μ-loop
-loop-again c = let a = c .before .before .before .before .before .before .before .before .before .args in
+loop-again c =
+    let at-put-bytes = c .before .before in
+    let at-loop-test = at-put-bytes .before .before .before in
+    let at-loop = at-loop-test .before in
+    let s = at-loop .before .before .before in
+    let a = s .args in
     let l = fields-length reachedIn (a .area .now) 0 (a .n) in
-    let t = c .before .before .before .before .before .loop-test .taken in
-    (omega arith, filled-bytes 8 (map reachedIn (rows (a .area .now) 0 (a .n))) (a .l .now) (c .before .before .before .before .before .before .loop .l) _ (c .before .before .before .before .before .before .loop .i) _ (c .before .before .before .before .before .before .loop .inv .1) (omega arith)
-    (labels-at (a .area .now) (a .n) (c .before .before .before .before .before .before .loop .i) t) (omega (arith, c .before .before .before .before .before .before .before .before .before .pre .1)) (c .before .before .put-bytes .ensures))
+    let t = at-loop-test .loop-test .taken in (
+      omega arith,
+      filled-bytes 8 (map reachedIn (rows (a .area .now) 0 (a .n))) (a .l .now) (at-loop .loop .l) _ (at-loop .loop .i) _ (at-loop .loop .inv .1) (omega arith)
+          (labels-at (a .area .now) (a .n) (at-loop .loop .i) t) (omega (arith, s .pre .1)) (at-put-bytes .put-bytes .ensures),
+    )
 
 same-length : tie.Need-same-length Inv-loop μ-loop
 same-length c = c .before .loop .inv .1 .same
 
 returns : tie.Need-returns Inv-loop μ-loop
-returns c = let l = fields-length reachedIn (c .before .before .before .before .args .area .now) 0 (c .before .before .before .before .args .n) in
-    let k = spread-length 8 (map reachedIn (rows (c .before .before .before .before .args .area .now) 0 (c .before .before .before .before .args .n))) in
-    filled-all (spread 8 (map reachedIn (rows (c .before .before .before .before .args .area .now) 0 (c .before .before .before .before .args .n)))) (c .before .before .before .before .args .l .now) (c .before .loop .l) (8 * c .before .loop .i) (c .before .loop .inv .1) (omega (arith, c .before .loop .inv .0, c .loop-test .left)) (omega (arith, c .before .before .before .before .pre .1))
+returns c =
+    let at-loop = c .before in
+    let s = at-loop .before .before .before in
+    let l = fields-length reachedIn (s .args .area .now) 0 (s .args .n) in
+    let k = spread-length 8 (map reachedIn (rows (s .args .area .now) 0 (s .args .n))) in
+    filled-all (spread 8 (map reachedIn (rows (s .args .area .now) 0 (s .args .n)))) (s .args .l .now) (at-loop .loop .l) (8 * at-loop .loop .i) (at-loop .loop .inv .1)
+    (omega (arith, at-loop .loop .inv .0, c .loop-test .left)) (omega (arith, s .pre .1))
 
 pub spell-labels-spec : {M : Type 1} → statement M
 spell-labels-spec =

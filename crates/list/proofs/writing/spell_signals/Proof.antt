@@ -17,7 +17,12 @@ abbrev μ-loop : tie.MeasureT-loop
 μ-loop area n o₀ i₀ o i = n - i
 
 loop-holds : tie.Need-loop-holds Inv-loop μ-loop
-loop-holds c = (omega arith, subst (λ (z : ℕ). Filled (spread 4 (map emittedIn (rows (c .before .before .args .area .now) 0 (c .before .before .args .n)))) (c .before .before .args .o .now) (c .before .before .args .o .now) z) (omega arith) (filled-none (spread 4 (map emittedIn (rows (c .before .before .args .area .now) 0 (c .before .before .args .n)))) (c .before .before .args .o .now)))
+loop-holds c =
+    let s = c .before .before in (
+      omega arith,
+      subst (λ (z : ℕ). Filled (spread 4 (map emittedIn (rows (s .args .area .now) 0 (s .args .n)))) (s .args .o .now) (s .args .o .now) z) (omega arith)
+          (filled-none (spread 4 (map emittedIn (rows (s .args .area .now) 0 (s .args .n)))) (s .args .o .now)),
+    )
 
 mul-put-bytes : tie.Need-mul-put-bytes Inv-loop μ-loop
 mul-put-bytes c = omega arith
@@ -35,7 +40,10 @@ emitted-in-requires : tie.Need-emitted-in-requires Inv-loop μ-loop
 emitted-in-requires c κs = tt
 
 put-bytes-requires : tie.Need-put-bytes-requires Inv-loop μ-loop
-put-bytes-requires c κs = (omega arith, omega (arith, c .before .before .before .before .loop .inv .1 .same, c .before .before .before .before .before .before .before .pre .1))
+put-bytes-requires c κs =
+    let at-loop = c .before .before .before .before in
+    let s = at-loop .before .before .before in
+    (omega arith, omega (arith, at-loop .loop .inv .1 .same, s .pre .1))
 
 add-i : tie.Need-add-i Inv-loop μ-loop
 add-i c = omega arith
@@ -44,19 +52,31 @@ loop-less : tie.Need-loop-less Inv-loop μ-loop
 loop-less c = omega arith
 
 loop-again : tie.Need-loop-again Inv-loop μ-loop
-loop-again c = let a = c .before .before .before .before .before .before .before .before .before .before .args in
+loop-again c =
+    let at-put-bytes = c .before .before in
+    let at-emitted-in = at-put-bytes .before in
+    let at-loop-test = at-emitted-in .before .before .before in
+    let at-loop = at-loop-test .before in
+    let s = at-loop .before .before .before in
+    let a = s .args in
     let l = fields-length emittedIn (a .area .now) 0 (a .n) in
-    let t = c .before .before .before .before .before .before .loop-test .taken in
-    (omega arith, filled-bytes 4 (map emittedIn (rows (a .area .now) 0 (a .n))) (a .o .now) (c .before .before .before .before .before .before .before .loop .o) _ (c .before .before .before .before .before .before .before .loop .i) _ (c .before .before .before .before .before .before .before .loop .inv .1) (omega arith)
-    (c .before .before .before .emitted-in .ensures ∙ signals-at (a .area .now) (a .n) (c .before .before .before .before .before .before .before .loop .i) t) (omega (arith, c .before .before .before .before .before .before .before .before .before .before .pre .1)) (c .before .before .put-bytes .ensures))
+    let t = at-loop-test .loop-test .taken in (
+      omega arith,
+      filled-bytes 4 (map emittedIn (rows (a .area .now) 0 (a .n))) (a .o .now) (at-loop .loop .o) _ (at-loop .loop .i) _ (at-loop .loop .inv .1) (omega arith)
+          (at-emitted-in .emitted-in .ensures ∙ signals-at (a .area .now) (a .n) (at-loop .loop .i) t) (omega (arith, s .pre .1)) (at-put-bytes .put-bytes .ensures),
+    )
 
 same-length : tie.Need-same-length Inv-loop μ-loop
 same-length c = c .before .loop .inv .1 .same
 
 returns : tie.Need-returns Inv-loop μ-loop
-returns c = let l = fields-length emittedIn (c .before .before .before .before .args .area .now) 0 (c .before .before .before .before .args .n) in
-    let k = spread-length 4 (map emittedIn (rows (c .before .before .before .before .args .area .now) 0 (c .before .before .before .before .args .n))) in
-    filled-all (spread 4 (map emittedIn (rows (c .before .before .before .before .args .area .now) 0 (c .before .before .before .before .args .n)))) (c .before .before .before .before .args .o .now) (c .before .loop .o) (4 * c .before .loop .i) (c .before .loop .inv .1) (omega (arith, c .before .loop .inv .0, c .loop-test .left)) (omega (arith, c .before .before .before .before .pre .1))
+returns c =
+    let at-loop = c .before in
+    let s = at-loop .before .before .before in
+    let l = fields-length emittedIn (s .args .area .now) 0 (s .args .n) in
+    let k = spread-length 4 (map emittedIn (rows (s .args .area .now) 0 (s .args .n))) in
+    filled-all (spread 4 (map emittedIn (rows (s .args .area .now) 0 (s .args .n)))) (s .args .o .now) (at-loop .loop .o) (4 * at-loop .loop .i) (at-loop .loop .inv .1)
+    (omega (arith, at-loop .loop .inv .0, c .loop-test .left)) (omega (arith, s .pre .1))
 
 pub spell-signals-spec : {M : Type 1} → statement M
 spell-signals-spec =
