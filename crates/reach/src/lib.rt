@@ -8,6 +8,7 @@ use codes::CodeSet;
 use table::Checked;
 ghost use mathlib.Core.Path.{_≡_};
 ghost use lib.ListN.{length};
+ghost use Rattle.table.specs.Outcomes.{numberOf};
 ghost use Rattle.table.specs.inner.Places.{Known, Loaded};
 ghost use Rattle.reach.specs.Answers.{reachedOutcome, reachOf};
 ghost use Rattle.reach.specs.inner.Rounds.{Settleable, Reaches, Rests};
@@ -91,6 +92,21 @@ pub enum Reached {
         set: u64,
         rounds: u32,
     },
+}
+
+// The number of an answer of reach: the refusal, 0 where the table is accepted.
+pub fn refusal(answer: Reached) -> u8
+    ensures { λ r. ⌜ r ≡ numberOf (reachedOutcome answer) ⌝ }
+{
+    match answer {
+        Reached::Refused(why) => why,
+        Reached::Found {
+            ends: _,
+            labels: _,
+            set: _,
+            rounds: _,
+        } => 0,
+    }
 }
 
 // Reach, with room lent for the nodes.

@@ -11,10 +11,10 @@ use Rattle.esterel.specs.Reachability.{nextR, reachFrom, reach}
 use Rattle.esterel.specs.Trimming.{isNothing, joinParts, names, endsAt, shiftLevel, shiftExits, canEnd, trimLoop, trimSignal, trimPresent, trimTry, trim, trimmed}
 use Rattle.table.specs.Kinds.{kinds, kindOf, rowOf}
 use Rattle.table.specs.Bits.{bits, numberAfter, number, bitsOf, bytesFrom, padded, bytesOf}
+use Rattle.table.specs.Outcomes.{refusal, values}
 use Rattle.table.specs.Reading.{lengthOf, editionOf, countOf, paddingOf, headerOf, nodesFrom, nodesOf, faultOf, readKind, readNode, readFrom, wholeOf, tableAfter, tableOf}
 use Rattle.table.specs.Writing.{nodes, nodeBits, writeNodes, write}
-use Rattle.trim.specs.declared.Trimmed.the-variants.{Refused, Accepted}
-use Rattle.trim.specs.Answers.{writtenOf, answerFor, bufferAfter, bufferFor, answerOf, leftOf, trimOf, bufferOf}
+use Rattle.trim.specs.Answers.{trimFor, bufferAfter, trimIn, bufferIn, trimOf, bufferOf}
 
 -- ---- case G, as bytes: no copy, no refusal, not nothing; the inner try stays with its exit, and what follows the exit goes
 
@@ -24,21 +24,21 @@ tableG = 16 ∷ 7 ∷ 160 ∷ 40 ∷ 8 ∷ 1 ∷ 192 ∷ 64 ∷ 76 ∷ 20 ∷ 8 
 unfoldable pub tableG′ : List ℕ
 tableG′ = 16 ∷ 5 ∷ 160 ∷ 40 ∷ 8 ∷ 1 ∷ 1 ∷ 64 ∷ 128 ∷ []
 
-pub trim-G : trimOf tableG 11 ≡ Accepted (record { nodes = 5; bytes = 9 })
-unfolding tableG trimOf answerOf answerFor writtenOf has only _union_ _intersect_ pauses pauseCount size depth codeOf labels none justEnded justAt justCode join minusZero throughTry hasLow notBelow noLowerThan maximum s d nextR reachFrom reach isNothing joinParts names endsAt shiftLevel shiftExits canEnd trimLoop trimSignal trimPresent trimTry trim trimmed kinds kindOf rowOf bits numberAfter number bitsOf bytesFrom padded bytesOf lengthOf editionOf countOf paddingOf headerOf nodesFrom nodesOf faultOf readKind readNode readFrom wholeOf tableAfter tableOf nodes nodeBits writeNodes write
+pub trim-G : trimOf tableG 11 ≡ values (5 ∷ 9 ∷ [])
+unfolding tableG trimOf trimIn trimFor has only _union_ _intersect_ pauses pauseCount size depth codeOf labels none justEnded justAt justCode join minusZero throughTry hasLow notBelow noLowerThan maximum s d nextR reachFrom reach isNothing joinParts names endsAt shiftLevel shiftExits canEnd trimLoop trimSignal trimPresent trimTry trim trimmed kinds kindOf rowOf bits numberAfter number bitsOf bytesFrom padded bytesOf lengthOf editionOf countOf paddingOf headerOf nodesFrom nodesOf faultOf readKind readNode readFrom wholeOf tableAfter tableOf nodes nodeBits writeNodes write
 trim-G = refl
 
 pub buffer-G : bufferOf tableG (replicate 11 7) ≡ tableG′ ++ (7 ∷ 7 ∷ [])
-unfolding tableG tableG′ bufferOf leftOf bufferFor bufferAfter answerFor writtenOf has only _union_ _intersect_ pauses pauseCount size depth codeOf labels none justEnded justAt justCode join minusZero throughTry hasLow notBelow noLowerThan maximum s d nextR reachFrom reach isNothing joinParts names endsAt shiftLevel shiftExits canEnd trimLoop trimSignal trimPresent trimTry trim trimmed kinds kindOf rowOf bits numberAfter number bitsOf bytesFrom padded bytesOf lengthOf editionOf countOf paddingOf headerOf nodesFrom nodesOf faultOf readKind readNode readFrom wholeOf tableAfter tableOf nodes nodeBits writeNodes write
+unfolding tableG tableG′ bufferOf bufferIn bufferAfter trimFor has only _union_ _intersect_ pauses pauseCount size depth codeOf labels none justEnded justAt justCode join minusZero throughTry hasLow notBelow noLowerThan maximum s d nextR reachFrom reach isNothing joinParts names endsAt shiftLevel shiftExits canEnd trimLoop trimSignal trimPresent trimTry trim trimmed kinds kindOf rowOf bits numberAfter number bitsOf bytesFrom padded bytesOf lengthOf editionOf countOf paddingOf headerOf nodesFrom nodesOf faultOf readKind readNode readFrom wholeOf tableAfter tableOf nodes nodeBits writeNodes write
 buffer-G = refl
 
 -- a byte too few: nothing is touched
-pub trim-G-short : trimOf tableG 8 ≡ Refused 13
-unfolding tableG trimOf answerOf answerFor writtenOf has only _union_ _intersect_ pauses pauseCount size depth codeOf labels none justEnded justAt justCode join minusZero throughTry hasLow notBelow noLowerThan maximum s d nextR reachFrom reach isNothing joinParts names endsAt shiftLevel shiftExits canEnd trimLoop trimSignal trimPresent trimTry trim trimmed kinds kindOf rowOf bits numberAfter number bitsOf bytesFrom padded bytesOf lengthOf editionOf countOf paddingOf headerOf nodesFrom nodesOf faultOf readKind readNode readFrom wholeOf tableAfter tableOf nodes nodeBits writeNodes write
+pub trim-G-short : trimOf tableG 8 ≡ refusal 13
+unfolding tableG trimOf trimIn trimFor has only _union_ _intersect_ pauses pauseCount size depth codeOf labels none justEnded justAt justCode join minusZero throughTry hasLow notBelow noLowerThan maximum s d nextR reachFrom reach isNothing joinParts names endsAt shiftLevel shiftExits canEnd trimLoop trimSignal trimPresent trimTry trim trimmed kinds kindOf rowOf bits numberAfter number bitsOf bytesFrom padded bytesOf lengthOf editionOf countOf paddingOf headerOf nodesFrom nodesOf faultOf readKind readNode readFrom wholeOf tableAfter tableOf nodes nodeBits writeNodes write
 trim-G-short = refl
 
 pub buffer-G-short : bufferOf tableG (replicate 8 7) ≡ replicate 8 7
-unfolding tableG bufferOf leftOf bufferFor bufferAfter answerFor writtenOf has only _union_ _intersect_ pauses pauseCount size depth codeOf labels none justEnded justAt justCode join minusZero throughTry hasLow notBelow noLowerThan maximum s d nextR reachFrom reach isNothing joinParts names endsAt shiftLevel shiftExits canEnd trimLoop trimSignal trimPresent trimTry trim trimmed kinds kindOf rowOf bits numberAfter number bitsOf bytesFrom padded bytesOf lengthOf editionOf countOf paddingOf headerOf nodesFrom nodesOf faultOf readKind readNode readFrom wholeOf tableAfter tableOf nodes nodeBits writeNodes write
+unfolding tableG bufferOf bufferIn bufferAfter trimFor has only _union_ _intersect_ pauses pauseCount size depth codeOf labels none justEnded justAt justCode join minusZero throughTry hasLow notBelow noLowerThan maximum s d nextR reachFrom reach isNothing joinParts names endsAt shiftLevel shiftExits canEnd trimLoop trimSignal trimPresent trimTry trim trimmed kinds kindOf rowOf bits numberAfter number bitsOf bytesFrom padded bytesOf lengthOf editionOf countOf paddingOf headerOf nodesFrom nodesOf faultOf readKind readNode readFrom wholeOf tableAfter tableOf nodes nodeBits writeNodes write
 buffer-G-short = refl
 
 -- ---- levels: the try in the middle goes, so an exit beyond it is lowered, and one that ends inside is not

@@ -5,11 +5,12 @@ use mathlib.Core.Path.{_≡_}
 use mathlib.Core.Bool.{Bool, true, false, cond, _||_}
 use mathlib.Core.List.{List, [], _∷_, _++_}
 use lib.ListN.{length, getD, take, drop}
-use Rattle.sets.specs.Set.{has}
+use Rattle.sets.specs.Set.{has, only}
 use Rattle.esterel.specs.Statement.{Statement, nothing, present, sequence, depth, Valid}
 use Rattle.esterel.specs.Trimming.{isNothing, names, endsAt, joinParts, trim}
+use Rattle.table.specs.Kinds.{kindOf, rowOf}
 use Rattle.table.specs.Writing.{nodes}
-use Rattle.table.specs.inner.Places.{Placed, statementAt}
+use Rattle.table.specs.inner.Places.{Placed, statementAt, Known}
 use Rattle.trim.specs.declared.descent.Around.{Around}
 use Rattle.trim.specs.declared.work.Part.{Part}
 use Rattle.trim.specs.inner.Levels.{trimmedIn, wrapIf, guardedIf}
@@ -36,14 +37,24 @@ pub record Stands (l : List ℕ) (deep : ℕ) (t : Statement) (work : List ℕ) 
   pub names-are : (S : ℕ) → has (r .named) S ≡ names S t
 
 -- the statement as a part, and as a whole statement, of one node at least
-abbrev pub Made : Statement → List ℕ → ℕ → Part → List ℕ → Type 0
-Made t = Stands (part t) (partDepth t) t
+abbrev pub PartStands : Statement → List ℕ → ℕ → Part → List ℕ → Type 0
+PartStands t = Stands (part t) (partDepth t) t
 
-abbrev pub Whole : Statement → List ℕ → ℕ → Part → List ℕ → Type 0
-Whole t = Stands (nodes t) (depth t) t
+abbrev pub WholeStands : Statement → List ℕ → ℕ → Part → List ℕ → Type 0
+WholeStands t = Stands (nodes t) (depth t) t
 
 abbrev pub nothingAt : ℕ → Part
 nothingAt to = record { from = to; depth = 0; named = 0 }
+
+-- what is made of a node of no kind: it names what no signal is
+abbrev pub refusedAt : ℕ → Part
+refusedAt to = record { from = to; depth = 0; named = only 63 }
+
+-- a kind, and an operand in its range
+pub record Fitting (kind operand : ℕ) : Type 0 where
+  pub kind-in : kind < 16
+  pub least : rowOf (kindOf kind) .least ≤ operand
+  pub most : operand ≤ rowOf (kindOf kind) .most
 
 -- ---- statements by their nodes
 
@@ -75,33 +86,33 @@ pub record ExitReady (places : List ℕ) (a : Around) (level : ℕ) : Type 0 whe
 -- ---- the steps; `near` and `shallow` bound the room and the depth that a step takes
 
 pub record LeafPut (x named : ℕ) (keep : Bool) (work : List ℕ) (to : ℕ) (r : Part) (work′ : List ℕ) : Type 0 where
-  pub made : (t : Statement) → Leaf t x named → Made (cond keep t nothing) work to r work′
+  pub made : (t : Statement) → Leaf t x named → PartStands (cond keep t nothing) work to r work′
   pub near : to ≤ r .from + 1
   pub shallow : r .depth ≤ 1
 
 -- a part that is nothing gets its node
 pub record Filled (work : List ℕ) (to : ℕ) (p r : Part) (work′ : List ℕ) : Type 0 where
-  pub made : (t : Statement) (before : List ℕ) → to ≤ length before → Made t before to p work → Whole t before to r work′
+  pub made : (t : Statement) (before : List ℕ) → to ≤ length before → PartStands t before to p work → WholeStands t before to r work′
   pub near : p .from ≤ r .from + 1
   pub below : r .from ≤ p .from
   pub shallow : r .depth ≤ p .depth + 1
 
 pub record Wrapped (x : ℕ) (z : Bool) (work : List ℕ) (to : ℕ) (p r : Part) (work′ : List ℕ) : Type 0 where
   pub made : (f : Statement → Statement) (t : Statement) (before : List ℕ) → Wraps f x → to ≤ length before
-      → Made t before to p work → Made (wrapIf f z t) before to r work′
+      → PartStands t before to p work → PartStands (wrapIf f z t) before to r work′
   pub near : p .from ≤ r .from + 2
   pub shallow : r .depth ≤ p .depth + 2
 
-pub record Joined (x : ℕ) (work : List ℕ) (to : ℕ) (p q r : Part) (work′ : List ℕ) : Type 0 where
+pub record PartsJoined (x : ℕ) (work : List ℕ) (to : ℕ) (p q r : Part) (work′ : List ℕ) : Type 0 where
   pub made : (f : Statement → Statement → Statement) (s t : Statement) (before between : List ℕ) → Joins f x 0 → to ≤ length before
-      → Made t before to q between → Made s between (q .from) p work → Made (joinParts f s t) before to r work′
+      → PartStands t before to q between → PartStands s between (q .from) p work → PartStands (joinParts f s t) before to r work′
   pub near : p .from ≤ r .from + 1
   pub shallow : r .depth ≤ max (p .depth) (q .depth) + 1
 
 -- the else branch of a present: whole where the present is started, in its try or not where it is resumed
 abbrev pub Branch : Bool → Statement → List ℕ → ℕ → Part → List ℕ → Type 0
-Branch true t = Whole t
-Branch false t = Made t
+Branch true t = WholeStands t
+Branch false t = PartStands t
 
 abbrev pub branchIf : Bool → Bool → Statement → Statement
 branchIf true z t = t
@@ -112,13 +123,13 @@ presentIf true S s t = present S s t
 presentIf false S s t = joinParts sequence s t
 
 pub record ElseClosed (started z : Bool) (work : List ℕ) (to : ℕ) (q r : Part) (work′ : List ℕ) : Type 0 where
-  pub made : (t : Statement) (before : List ℕ) → to ≤ length before → Made t before to q work → Branch started (branchIf started z t) before to r work′
+  pub made : (t : Statement) (before : List ℕ) → to ≤ length before → PartStands t before to q work → Branch started (branchIf started z t) before to r work′
   pub near : q .from ≤ r .from + cond started 1 3
   pub shallow : r .depth ≤ q .depth + 2
 
 pub record PresentClosed (started : Bool) (S : ℕ) (work : List ℕ) (to : ℕ) (p q r : Part) (work′ : List ℕ) : Type 0 where
   pub made : (s t : Statement) (before between : List ℕ) → to ≤ length before
-      → Branch started t before to q between → Made s between (q .from) p work → Made (presentIf started S s t) before to r work′
+      → Branch started t before to q between → PartStands s between (q .from) p work → PartStands (presentIf started S s t) before to r work′
   pub near : p .from ≤ r .from + cond started 2 1
   pub shallow : r .depth ≤ max (p .depth + 1) (q .depth) + 1
 
@@ -129,10 +140,11 @@ abbrev pub Caught : ℕ → List ℕ → Around → Statement → Type 0
 Caught R places a p = (d : ℕ) → d < a .tries → endsAt d (trim R (a .started) p) ≡ true → getD places (a .tries - d) 0 < a .kept
 
 -- what trimming the statement at a place asks: 4 nodes of room for each node
-pub record Ready (R : ℕ) (xs notes : List ℕ) (at left : ℕ) (a : Around) (places work : List ℕ) (to : ℕ) : Type 0 where
+pub record Trimmable (R : ℕ) (xs notes : List ℕ) (at left : ℕ) (a : Around) (places work : List ℕ) (to : ℕ) : Type 0 where
   pub valid : Valid (a .tries) (statementAt left xs at .statement)
   pub noted : Noted (TrimNote R notes) xs left at
   pub all : length xs ≡ 1024
+  pub known : Known xs
   pub room : 4 * statementAt left xs at .next ≤ to + 4 * at
   pub to-in : to ≤ length work
   pub work-is : length work ≡ 4096
@@ -144,7 +156,7 @@ pub record Ready (R : ℕ) (xs notes : List ℕ) (at left : ℕ) (a : Around) (p
 
 -- the statement p, which begins at a place, was trimmed
 pub record Done (R : ℕ) (p : Placed) (at left : ℕ) (a : Around) (places work : List ℕ) (to : ℕ) (r : Part) (places′ work′ : List ℕ) : Type 0 where
-  pub made : Made (trimmedIn R places a (p .statement)) work to r work′
+  pub made : PartStands (trimmedIn R places a (p .statement)) work to r work′
   pub room : to + 4 * at ≤ r .from + 4 * p .next
   pub shallow : r .depth ≤ 3 * left
   pub same : (i : ℕ) → i ≤ a .tries → getD places′ i 0 ≡ getD places i 0

@@ -1,9 +1,10 @@
--- `work::put` meets its contract: the node is the one of the table of kinds.
+-- `work::put` meets its contract: the operand is in its range, so the node is the one of the kind and the operand.
 use denote.Ref.{now}
 use Prim.Native.Nat.{ℕ, _-_}
-use mathlib.Core.Path.{refl, ap}
+use mathlib.Core.Path.{refl, ap, _∙_}
 use lib.ListN.{set}
 use borrow.Author.Needs.{needs}
+use Rattle.table.proofs.Making.{nodeOf-same}
 use Rattle.trim.proofs.work.put.Statement.{statement}
 use Rattle.trim.proofs.work.put.Tie as tie
 
@@ -23,7 +24,10 @@ sub-result : tie.Need-sub-result
 sub-result c = search needs
 
 returns : tie.Need-returns
-returns c = let s = c .before in (refl, ap (λ (x : ℕ). set (now (s .args .work)) (s .args .from - 1) x) (c .node-of .ensures))
+returns c =
+    let s = c .before in
+    let fit = s .pre .2 in
+    (refl, ap (λ (x : ℕ). set (now (s .args .work)) (s .args .from - 1) x) (c .node-of .ensures ∙ nodeOf-same (s .args .kind) (s .args .operand) (fit .least) (fit .most)))
 
 pub put-spec : {M : Type 1} → statement M
 put-spec =
