@@ -153,7 +153,7 @@ for-refusals q room w = go (ltb 1024 (size q) || ltb deepest (depth q)) (ltb roo
     go false true e = let z : 13 ≡ w = cc in (omega arith, omega arith)
     go false false e = absurd (let z : _≡_ {A = ℕ} 0 1 = cc in omega arith)
 
--- "Check's refusals; 12 .. 13": 1 to 13
+-- "Check's refusals", 12 and 13
 pub trim-refusals : (t : List ℕ) (room w : ℕ) → trimOf t room ≡ refusal w → (1 ≤ w) × (w ≤ 13)
 unfolding trimOf trimIn
 trim-refusals t room w = go (tableOf t) refl

@@ -30,7 +30,8 @@ use Rattle.reach.specs.inner.Notes.{secondOf, endsOf, keptOf}
 use Rattle.table.proofs.Places.{Node, placed-node, placed-none}
 use Rattle.trim.proofs.Walk.{next-after}
 use Rattle.trim.proofs.Leaving.{ends-signal, ends-sequence, ends-parallel, ends-loop, ends-try, ends-branches}
-use Rattle.trim.proofs.Steps.{One, Two, note-ends, note-place, note-kept, one-signal, one-loop, one-try, two-present, two-sequence, two-parallel, trimmed-none, trimmed-leaf, trimmed-one, trimmed-two, trimmed-branches, one-ready, second-ready, join-ready, join-room, else-room, branch-ready, present-room}
+use Rattle.trim.proofs.Steps.{One, Two, note-ends, note-place, note-kept, one-signal, one-loop, one-try, two-present, two-sequence, two-parallel, trimmed-none, trimmed-leaf, trimmed-one, trimmed-two, trimmed-branches}
+use Rattle.trim.proofs.Steps.{one-ready, second-ready, join-ready, join-room, else-room, branch-ready, present-room}
 
 module _ {R : ℕ} {xs notes : List ℕ} {at left : ℕ} {a : Around} {places work : List ℕ} {to : ℕ} (N : Trimmable R xs notes at left a places work to) where
   abbrev operand : ℕ

@@ -4,18 +4,17 @@ use mathlib.Core.Logic.{_≢_}
 use mathlib.Core.Bool.{Bool, true, false, cond, _||_}
 use mathlib.Core.List.{List, [], _∷_, _++_, append-assoc, append-nil}
 use Prim.Native.Nat.{ℕ, zero, suc, _+_, _-_, _%_, _^_, _≤_, _<_, max, zero-le}
-use native.Mathlib.Nat.{add-zero, mod-eq-of-lt}
+use native.Mathlib.Nat.{add-zero}
 use native.Mathlib.Decide.{ℕ-discrete}
 use native.Mathlib.Numerals.{sub-one}
 use native.Mathlib.Omega.{arith}
-use lib.Pow.{pow-lt}
 use lib.Bits.{bitOr}
 use lib.Dec.{eqb}
 use lib.ListN.{length, getD, take, drop, set, length-append, length-drop, take-append-drop}
 use lib.Seq.{take-suc, drop-at, set-at, take-append-le, take-take, length-take-le}
 use Rattle.sets.specs.Set.{has, only, _union_}
 use Rattle.sets.proofs.Booleans.{or-false, eqb-same, eqb-differ}
-use Rattle.sets.proofs.Members.{has-union, has-empty, has-only, has-only-other}
+use Rattle.sets.proofs.Members.{has-union, has-empty, has-only, has-only-other, only-fits}
 use Rattle.esterel.specs.Statement.{Statement, nothing, pause, gotopause, emit, exit, signal, present, sequence, parallel, loop, try, depth}
 use Rattle.esterel.specs.Trimming.{isNothing, names, joinParts}
 use Rattle.esterel.proofs.Trimming.{is-nothing}
@@ -227,12 +226,8 @@ wrapped-put x z work to p v between f work′ k h F e =
 -- ---- one signal
 
 pub has-signal : (S own : ℕ) → S < 64 → own ≡ only S % 2 ^ 64 → (n : ℕ) → has own n ≡ eqb n S
-unfolding only
-has-signal S own h e n = ap (λ (m : ℕ). has m n) (e ∙ fit) ∙ go (ℕ-discrete n S)
+has-signal S own h e n = ap (λ (m : ℕ). has m n) (e ∙ only-fits 64 S h) ∙ go (ℕ-discrete n S)
   where
-    fit : 2 ^ S % 2 ^ 64 ≡ 2 ^ S
-    fit = mod-eq-of-lt (pow-lt h)
-
     go : Dec (n ≡ S) → has (only S) n ≡ eqb n S
     go (yes z) = rw z (has-only S ∙ sym (eqb-same S))
     go (no z) = has-only-other S n (λ y. z (sym y)) ∙ sym (eqb-differ n S z)
@@ -382,11 +377,11 @@ pub joins-sequence : Joins sequence (node 7 0) 0
 unfolding nodes isNothing depth names
 joins-sequence = record { nodes-are = λ p q. refl; some = λ p q. refl; deep = λ p q. refl; names-are = λ S p q. sym (ap (λ (z : Bool). z || (names S p || names S q)) (has-empty S)) }
 
-or-swap : (a b : Bool) → (a || b) ≡ (b || a)
-or-swap true true = refl
-or-swap true false = refl
-or-swap false true = refl
-or-swap false false = refl
+or-turned : (a b : Bool) → (a || b) ≡ (b || a)
+or-turned true true = refl
+or-turned true false = refl
+or-turned false true = refl
+or-turned false false = refl
 
 module _ (started : Bool) (S : ℕ) (work : List ℕ) (to : ℕ) (p q : Part) where
   pub present-joined : started ≡ false → (r : Part) (work′ : List ℕ) → PartsJoined (node 7 0) work to p q r work′ → PresentClosed started S work to p q r work′
@@ -413,7 +408,7 @@ module _ (started : Bool) (S : ℕ) (work : List ℕ) (to : ℕ) (p q : Part) wh
               depth-is = omega (arith, U .depth-is, Q .depth-is);
               names-are = λ m.
                   has-or (bitOr (v .named) (q .named)) own m ∙ ap₂ _||_ (names-two (v .named) (q .named) m s t (U .names-are m) (Q .names-are m)) (o m)
-                  ∙ or-swap (names m s || names m t) (eqb m S);
+                  ∙ or-turned (names m s || names m t) (eqb m S);
             });
         near = omega (arith, A .0, F .near);
         shallow = omega (arith, F .shallow);

@@ -29,9 +29,6 @@ const TOO_LARGE: u8 = 12;
 
 const TOO_SHORT: u8 = 13;
 
-// The depth that a table may have, as a part counts it.
-const DEEPEST: u16 = 60;
-
 // A trimmed table: its nodes, and its length in bytes.
 pub struct Written {
     pub nodes: u16,
@@ -97,7 +94,7 @@ fn finish(work: &[u16], part: Part, out: &mut [u8]) -> Trimmed
     if table::MOST_NODES < count {
         return Trimmed::Refused(TOO_LARGE);
     }
-    if DEEPEST < part.depth {
+    if table::DEEPEST < part.depth as usize {
         return Trimmed::Refused(TOO_LARGE);
     }
     let bytes = table::length_of(count);

@@ -33,6 +33,9 @@ sub-count c = search needs
 returns : tie.Need-returns
 returns c = let s = c .before .before .before in finish-many (part s) (work s) (out s) (c .if1 .taken)
 
+cast-if2 : tie.Need-cast-if2
+cast-if2 c = search needs
+
 returns-2 : tie.Need-returns-2
 returns-2 c = let s = c .before .before .before .before .before in finish-deep (part s) (work s) (out s) (c .if2 .taken)
 
@@ -88,6 +91,7 @@ finish-spec =
     (tie.spec
     sub-count
     returns
+    cast-if2
     returns-2
     length-of-requires
     returns-3
