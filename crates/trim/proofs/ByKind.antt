@@ -49,8 +49,8 @@ module _ {R : ℕ} {xs notes : List ℕ} {at left : ℕ} {a : Around} {places wo
   unfolding placeKind kindOf kinds
   at-nothing n = rw (placed-node n) (trimmed-none R at left a places work to (at + 1) (omega arith))
 
-  pub leaf-room : {k : ℕ} → Node left xs at k → (1 ≤ to) × (to ≤ 4096) × (to ≤ length work)
-  leaf-room n = (let r = N .room in let s = next-after n in omega arith, omega (arith, N .to-in, N .work-is), N .to-in)
+  pub leaf-room : {k : ℕ} → Node left xs at k → (1 ≤ to) × (to ≤ 4096)
+  leaf-room n = (let r = N .room in let s = next-after n in omega arith, N .to-in)
 
   -- the operand of a node is in the range of its kind
 

@@ -49,6 +49,12 @@ returns-3 c =
     let s = begun e in
     finish-short (part s) (work s) (out s) (few e .if1 .left) (e .if2 .left) (l .length-of .result) (l .length-of .ensures) (c .if3 .taken)
 
+cast-nodes : tie.Need-cast-nodes
+cast-nodes c = search needs
+
+sub-first : tie.Need-sub-first
+sub-first c = search needs
+
 mul-write-nodes : tie.Need-mul-write-nodes
 mul-write-nodes c = search needs
 
@@ -68,9 +74,6 @@ write-nodes-requires c κs =
     let e = l .before in
     let s = begun e in
     finish-writable (part s) (work s) (out s) (few e .if1 .left) (e .if2 .left) (l .length-of .result) (l .length-of .ensures) (r .if3 .left) (s .pre)
-
-cast-t16 : tie.Need-cast-t16
-cast-t16 c = search needs
 
 same-length : tie.Need-same-length
 same-length c = search needs
@@ -95,11 +98,12 @@ finish-spec =
     returns-2
     length-of-requires
     returns-3
+    cast-nodes
+    sub-first
     mul-write-nodes
     sub-write-nodes
     part-write-nodes-start
     part-write-nodes-end
     write-nodes-requires
-    cast-t16
     same-length
     returns-4)
