@@ -3,11 +3,11 @@
 use mathlib.Core.Path.{_≡_, refl, sym, ap, _∙_, subst}
 use mathlib.Core.Bool.{Bool, true, false, cond, _||_}
 use mathlib.Core.List.{List, [], _∷_, _++_}
-use Prim.Native.Nat.{ℕ, _-_, _≤_}
+use Prim.Native.Nat.{ℕ, _≤_}
 use native.Mathlib.Omega.{arith}
 use borrow.Author.Tests.{ltb-false}
 use lib.Dec.{ltb}
-use lib.ListN.{length, take, drop, length-drop}
+use lib.ListN.{length, take, drop}
 use lib.Seq.{take-at}
 use Rattle.sets.proofs.Booleans.{or-neither}
 use Rattle.esterel.specs.Statement.{Statement, size, depth, Valid}
@@ -23,7 +23,6 @@ use Rattle.table.specs.inner.Places.{statementOf, Known}
 use Rattle.table.specs.Writing.{nodes, write, Allowed}
 use Rattle.table.proofs.Accepted.{accepted}
 use Rattle.table.proofs.Loading.{load-refuses, load-holds, load-statement, load-loaded}
-use Rattle.table.proofs.Nodes.{length-nodes}
 use Rattle.table.proofs.Refusals.{table-refusals, zero-accepted}
 use Rattle.table.proofs.RoundTrip.{below-nodes, valid-ranged, read-written}
 use Rattle.trim.specs.declared.work.Laid.{Laid}
@@ -57,19 +56,18 @@ module _ (t old new : List ℕ) (c : Checked) (h : (checkedOutcome c ≡ checkOf
 
   module _ (n : ℕ) (e : c ≡ checked.Accepted n) where
     module _ (part : Part) (work : List ℕ) (E : Ends (trimmed (statementOf new)) part work) where
-      pub end-fields : length old ≡ 1024 → Known old → length work ≡ 4096 → Fields part work
+      pub end-fields : length old ≡ 1024 → Known old → length work ≡ 1024 → Fields part work
       end-fields k known l =
           let q : Statement = trimmed (statementOf new) in
-          let count : size q ≡ length work - part .from = sym (length-nodes q) ∙ ap length (sym (E .stands)) ∙ length-drop (part .from) work in
           let L = load-loaded t old new c h n e k known in
           let few = size-trimmed (statementOf new) in
           let small = L .few in
           let valid : Valid 0 q = valid-trimmed (statementOf new) (L .shallow) (L .valid) in
           record {
-            within = E .within;
-            few = omega arith;
-            some = λ z. omega arith;
-            fields = subst (Below 1024) (sym (E .stands)) (below-nodes q (valid-ranged 0 q valid));
+            within = omega (arith, E .count);
+            some = λ z. omega (arith, E .count);
+            long = l;
+            fields = λ held. subst (Below 1024) (sym (E .stands held)) (below-nodes q (valid-ranged 0 q valid));
           }
 
       pub trim-done : (r : Trimmed) (out′ : List ℕ) → Finished work part out r out′ → (trimmedOutcome r ≡ trimOf t (length out)) × (out′ ≡ bufferOf t out)
@@ -153,7 +151,7 @@ for-refusals q room w = go (ltb 1024 (size q) || ltb deepest (depth q)) (ltb roo
     go false true e = let z : 13 ≡ w = cc in (omega arith, omega arith)
     go false false e = absurd (let z : _≡_ {A = ℕ} 0 1 = cc in omega arith)
 
--- "Check's refusals; 12 .. 13": 1 to 13
+-- "Check's refusals", 12 and 13
 pub trim-refusals : (t : List ℕ) (room w : ℕ) → trimOf t room ≡ refusal w → (1 ≤ w) × (w ≤ 13)
 unfolding trimOf trimIn
 trim-refusals t room w = go (tableOf t) refl

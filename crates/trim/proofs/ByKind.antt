@@ -30,7 +30,8 @@ use Rattle.reach.specs.inner.Notes.{secondOf, endsOf, keptOf}
 use Rattle.table.proofs.Places.{Node, placed-node, placed-none}
 use Rattle.trim.proofs.Walk.{next-after}
 use Rattle.trim.proofs.Leaving.{ends-signal, ends-sequence, ends-parallel, ends-loop, ends-try, ends-branches}
-use Rattle.trim.proofs.Steps.{One, Two, note-ends, note-place, note-kept, one-signal, one-loop, one-try, two-present, two-sequence, two-parallel, trimmed-none, trimmed-leaf, trimmed-one, trimmed-two, trimmed-branches, one-ready, second-ready, join-ready, join-room, else-room, branch-ready, present-room}
+use Rattle.trim.proofs.Steps.{One, Two, note-ends, note-place, note-kept, one-signal, one-loop, one-try, two-present, two-sequence, two-parallel, trimmed-none, trimmed-leaf, trimmed-one, trimmed-two, trimmed-branches}
+use Rattle.trim.proofs.Steps.{one-ready, second-ready, join-ready, join-room, else-room, branch-ready, present-room}
 
 module _ {R : ℕ} {xs notes : List ℕ} {at left : ℕ} {a : Around} {places work : List ℕ} {to : ℕ} (N : Trimmable R xs notes at left a places work to) where
   abbrev operand : ℕ
@@ -48,8 +49,8 @@ module _ {R : ℕ} {xs notes : List ℕ} {at left : ℕ} {a : Around} {places wo
   unfolding placeKind kindOf kinds
   at-nothing n = rw (placed-node n) (trimmed-none R at left a places work to (at + 1) (omega arith))
 
-  pub leaf-room : {k : ℕ} → Node left xs at k → (1 ≤ to) × (to ≤ 4096) × (to ≤ length work)
-  leaf-room n = (let r = N .room in let s = next-after n in omega arith, omega (arith, N .to-in, N .work-is), N .to-in)
+  pub leaf-room : {k : ℕ} → Node left xs at k → (1 ≤ to) × (to ≤ 4096)
+  leaf-room n = (let r = N .room in let s = next-after n in omega arith, N .to-in)
 
   -- the operand of a node is in the range of its kind
 

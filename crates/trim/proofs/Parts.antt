@@ -4,18 +4,18 @@ use mathlib.Core.Logic.{_≢_}
 use mathlib.Core.Bool.{Bool, true, false, cond, _||_}
 use mathlib.Core.List.{List, [], _∷_, _++_, append-assoc, append-nil}
 use Prim.Native.Nat.{ℕ, zero, suc, _+_, _-_, _%_, _^_, _≤_, _<_, max, zero-le}
-use native.Mathlib.Nat.{add-zero, mod-eq-of-lt}
+use native.Mathlib.Nat.{add-zero}
 use native.Mathlib.Decide.{ℕ-discrete}
 use native.Mathlib.Numerals.{sub-one}
 use native.Mathlib.Omega.{arith}
-use lib.Pow.{pow-lt}
 use lib.Bits.{bitOr}
-use lib.Dec.{eqb}
+use borrow.Author.Tests.{ltb-true, ltb-false}
+use lib.Dec.{eqb, ltb}
 use lib.ListN.{length, getD, take, drop, set, length-append, length-drop, take-append-drop}
-use lib.Seq.{take-suc, drop-at, set-at, take-append-le, take-take, length-take-le}
+use lib.Seq.{take-suc, drop-at, set-at, take-append-le, take-take, length-take-le, drop-set-lt, drop-set-add}
 use Rattle.sets.specs.Set.{has, only, _union_}
-use Rattle.sets.proofs.Booleans.{or-false, eqb-same, eqb-differ}
-use Rattle.sets.proofs.Members.{has-union, has-empty, has-only, has-only-other}
+use Rattle.sets.proofs.Booleans.{or-false, by-cond, eqb-same, eqb-differ}
+use Rattle.sets.proofs.Members.{has-union, has-empty, has-only, has-only-other, only-fits}
 use Rattle.esterel.specs.Statement.{Statement, nothing, pause, gotopause, emit, exit, signal, present, sequence, parallel, loop, try, depth}
 use Rattle.esterel.specs.Trimming.{isNothing, names, joinParts}
 use Rattle.esterel.proofs.Trimming.{is-nothing}
@@ -24,44 +24,64 @@ use Rattle.table.specs.Writing.{nodes, node}
 use Rattle.table.proofs.Nodes.{depth-positive}
 use Rattle.trim.specs.declared.work.Part.{Part}
 use Rattle.trim.specs.inner.Levels.{wrapIf, guardedIf}
-use Rattle.trim.specs.inner.Parts.{part, partDepth, Puts, Stands, PartStands, WholeStands, nothingAt, Fitting, Joins, LeafPut, Filled, Wrapped, PartsJoined, ElseClosed, PresentClosed}
+use Rattle.trim.specs.inner.Parts.{part, partDepth, Puts, Stands, PartStands, WholeStands, heldWith, nothingAt, Fitting, Joins, LeafPut, Filled, Wrapped, PartsJoined, ElseClosed, PresentClosed}
 use Rattle.trim.proofs.Dropped.{join-first, join-both}
 
 -- ---- lists written from their end
 
 pub puts-none : (work : List ℕ) (to : ℕ) → Puts [] work to to work
-puts-none work to = record { put = sym (take-append-drop to work); from-is = add-zero to }
+puts-none work to = record { put = λ all n e. sym e ∙ ap (drop 3072) (sym (take-append-drop to all)); from-is = add-zero to }
 
-pub puts-more : (l work work′ : List ℕ) (to from x : ℕ) → 1 ≤ from → to ≤ length work → Puts l work to from work′ → Puts (x ∷ l) work to (from - 1) (set work′ (from - 1) x)
+-- a node in front, in a list of all places
+set-front : (all l : List ℕ) (to n x : ℕ) → n < length all → set (take (suc n) all ++ (l ++ drop to all)) n x ≡ take n all ++ (x ∷ l ++ drop to all)
+set-front all l to n x h =
+    rw (take-suc all n 0 h, append-assoc (take n all) (getD all n 0 ∷ []) (l ++ drop to all))
+    (set-at (take n all) (getD all n 0) (l ++ drop to all) x n (length-take-le n all (omega arith)))
+
+-- and in those from k on
+set-held : (k : ℕ) (all : List ℕ) (i x : ℕ) → cond (ltb i k) (drop k all) (set (drop k all) (i - k) x) ≡ drop k (set all i x)
+set-held k all i x =
+    by-cond (λ (l : List ℕ). l ≡ drop k (set all i x)) (ltb i k) (drop k all) (set (drop k all) (i - k) x) (λ h. sym (drop-set-lt k all i x (ltb-true i k h)))
+    (λ h. let e : k + (i - k) ≡ i = omega (arith, ltb-false i k h) in sym (drop-set-add k all (i - k) x) ∙ ap (λ (j : ℕ). drop k (set all j x)) e)
+
+pub puts-more : (l work work′ : List ℕ) (to from x : ℕ) → 1 ≤ from → to ≤ 4096 → Puts l work to from work′ → Puts (x ∷ l) work to (from - 1) (heldWith work′ (from - 1) x)
 puts-more l work work′ to zero x h w p = absurd (omega arith)
 puts-more l work work′ to (suc n) x h w p =
     rw sub-one
     (record {
-      put =
-          rw (p .put, take-suc work n 0 (omega (arith, p .from-is)), append-assoc (take n work) (getD work n 0 ∷ []) (l ++ drop to work))
-          (set-at (take n work) (getD work n 0) (l ++ drop to work) x n (length-take-le n work (omega (arith, p .from-is))));
+      put = λ all k e.
+          ap (λ (v : List ℕ). heldWith v n x) (p .put all k e) ∙ set-held 3072 (take (suc n) all ++ (l ++ drop to all)) n x
+          ∙ ap (drop 3072) (set-front all l to n x (omega (arith, p .from-is)));
       from-is = omega (arith, p .from-is);
     })
 
-pub puts-both : (l m work between work′ : List ℕ) (to mid from : ℕ) → to ≤ length work → Puts m work to mid between → Puts l between mid from work′
+-- a list written in front of another, in a list of all places
+module _ (l m all : List ℕ) (to mid from : ℕ) (w : to ≤ length all) (q : mid + length m ≡ to) (p : from + length l ≡ mid) where
+  abbrev then : List ℕ
+  then = take mid all ++ (m ++ drop to all)
+
+  front : length (take mid all) ≡ mid
+  front = length-take-le mid all (omega arith)
+
+  then-long : length then ≡ length all
+  then-long = simp (length-append, length-drop, front) (omega arith)
+
+  then-front : take from then ++ (l ++ drop mid then) ≡ take from all ++ ((l ++ m) ++ drop to all)
+  then-front =
+      let e : take from then ≡ take from all =
+      take-append-le from (take mid all) (m ++ drop to all) (rw front (omega arith)) ∙ take-take from mid all (omega arith) in
+      rw (e, drop-at (take mid all) (m ++ drop to all) mid front, append-assoc l m (drop to all))
+
+pub puts-both : (l m work between work′ : List ℕ) (to mid from : ℕ) → to ≤ 4096 → Puts m work to mid between → Puts l between mid from work′
     → Puts (l ++ m) work to from work′
 puts-both l m work between work′ to mid from w q p =
-    let e : take from between ≡ take from work =
-    ap (λ (x : List ℕ). take from x) (q .put)
-    ∙ take-append-le from (take mid work) (m ++ drop to work) (rw (length-take-le mid work (omega (arith, q .from-is))) (omega (arith, p .from-is)))
-    ∙ take-take from mid work (omega (arith, p .from-is)) in
-    let f : drop mid between ≡ m ++ drop to work =
-    ap (λ (x : List ℕ). drop mid x) (q .put) ∙ drop-at (take mid work) (m ++ drop to work) mid (length-take-le mid work (omega (arith, q .from-is))) in
     record {
-      put = p .put ∙ rw (e, f, append-assoc l m (drop to work));
+      put = λ all k e.
+          let h : to ≤ length all = omega arith in
+          p .put (then l m all to mid from h (q .from-is) (p .from-is)) (then-long l m all to mid from h (q .from-is) (p .from-is) ∙ k) (sym (q .put all k e))
+          ∙ ap (drop 3072) (then-front l m all to mid from h (q .from-is) (p .from-is));
       from-is = rw (length-append l m) (omega (arith, p .from-is, q .from-is));
     }
-
--- the length of the work area stays
-pub puts-length : (l work work′ : List ℕ) (to from : ℕ) → to ≤ length work → Puts l work to from work′ → length work′ ≡ length work
-puts-length l work work′ to from w p =
-    ap (λ (x : List ℕ). length x) (p .put)
-    ∙ simp (length-append, length-drop, length-take-le from work (omega (arith, p .from-is))) (omega (arith, p .from-is))
 
 -- ---- parts and whole statements
 
@@ -159,13 +179,13 @@ present-fits S h = record { kind-in = omega arith; least = zero-le; most = h }
 
 -- what `put` does
 abbrev pub PutAt : List ℕ → ℕ → ℕ → ℕ → List ℕ → Type 0
-PutAt work from x f work′ = (f ≡ from - 1) × (work′ ≡ set work (from - 1) x)
+PutAt work from x f work′ = (f ≡ from - 1) × (work′ ≡ heldWith work (from - 1) x)
 
-puts-put : (l before work work′ : List ℕ) (to from x f : ℕ) → 1 ≤ from → to ≤ length before → Puts l before to from work → PutAt work from x f work′
+puts-put : (l before work work′ : List ℕ) (to from x f : ℕ) → 1 ≤ from → to ≤ 4096 → Puts l before to from work → PutAt work from x f work′
     → Puts (x ∷ l) before to f work′
 puts-put l before work work′ to from x f h w p e = subst₂ (λ (n : ℕ) (m : List ℕ). Puts (x ∷ l) before to n m) (sym (e .0)) (sym (e .1)) (puts-more l before work to from x h w p)
 
-pub leaf-put : (x named : ℕ) (keep : Bool) (work : List ℕ) (to f : ℕ) (work′ : List ℕ) → keep ≡ true → 1 ≤ to → to ≤ length work → PutAt work to x f work′
+pub leaf-put : (x named : ℕ) (keep : Bool) (work : List ℕ) (to f : ℕ) (work′ : List ℕ) → keep ≡ true → 1 ≤ to → to ≤ 4096 → PutAt work to x f work′
     → LeafPut x named keep work to (record { from = f; depth = 1; named = named }) work′
 leaf-put x named keep work to f work′ k h w e =
     record {
@@ -227,12 +247,8 @@ wrapped-put x z work to p v between f work′ k h F e =
 -- ---- one signal
 
 pub has-signal : (S own : ℕ) → S < 64 → own ≡ only S % 2 ^ 64 → (n : ℕ) → has own n ≡ eqb n S
-unfolding only
-has-signal S own h e n = ap (λ (m : ℕ). has m n) (e ∙ fit) ∙ go (ℕ-discrete n S)
+has-signal S own h e n = ap (λ (m : ℕ). has m n) (e ∙ only-fits 64 S h) ∙ go (ℕ-discrete n S)
   where
-    fit : 2 ^ S % 2 ^ 64 ≡ 2 ^ S
-    fit = mod-eq-of-lt (pow-lt h)
-
     go : Dec (n ≡ S) → has (only S) n ≡ eqb n S
     go (yes z) = rw z (has-only S ∙ sym (eqb-same S))
     go (no z) = has-only-other S n (λ y. z (sym y)) ∙ sym (eqb-differ n S z)
@@ -382,11 +398,11 @@ pub joins-sequence : Joins sequence (node 7 0) 0
 unfolding nodes isNothing depth names
 joins-sequence = record { nodes-are = λ p q. refl; some = λ p q. refl; deep = λ p q. refl; names-are = λ S p q. sym (ap (λ (z : Bool). z || (names S p || names S q)) (has-empty S)) }
 
-or-swap : (a b : Bool) → (a || b) ≡ (b || a)
-or-swap true true = refl
-or-swap true false = refl
-or-swap false true = refl
-or-swap false false = refl
+or-turned : (a b : Bool) → (a || b) ≡ (b || a)
+or-turned true true = refl
+or-turned true false = refl
+or-turned false true = refl
+or-turned false false = refl
 
 module _ (started : Bool) (S : ℕ) (work : List ℕ) (to : ℕ) (p q : Part) where
   pub present-joined : started ≡ false → (r : Part) (work′ : List ℕ) → PartsJoined (node 7 0) work to p q r work′ → PresentClosed started S work to p q r work′
@@ -404,7 +420,6 @@ module _ (started : Bool) (S : ℕ) (work : List ℕ) (to : ℕ) (p q : Part) wh
   present-whole e v work₁ f own work′ h o F A =
       rw e (record {
         made = λ s t before between w Q P.
-            let n : length between ≡ length before = puts-length (nodes t) before between to (q .from) w (Q .puts) in
             let U = F .made s between (omega (arith, Q .puts .from-is)) P in
             let r : Part = record { from = f; depth = max (v .depth) (q .depth) + 1; named = bitOr (bitOr (v .named) (q .named)) own } in
             whole-made (present S s t) before to r work′ refl (record {
@@ -413,7 +428,7 @@ module _ (started : Bool) (S : ℕ) (work : List ℕ) (to : ℕ) (p q : Part) wh
               depth-is = omega (arith, U .depth-is, Q .depth-is);
               names-are = λ m.
                   has-or (bitOr (v .named) (q .named)) own m ∙ ap₂ _||_ (names-two (v .named) (q .named) m s t (U .names-are m) (Q .names-are m)) (o m)
-                  ∙ or-swap (names m s || names m t) (eqb m S);
+                  ∙ or-turned (names m s || names m t) (eqb m S);
             });
         near = omega (arith, A .0, F .near);
         shallow = omega (arith, F .shallow);

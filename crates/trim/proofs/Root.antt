@@ -3,12 +3,12 @@
 use mathlib.Core.Path.{_≡_, sym, ap, ap₂, _∙_, subst}
 use mathlib.Core.Bool.{Bool, true, false, cond, _||_}
 use mathlib.Core.List.{List, [], _∷_, _++_, append-nil}
-use Prim.Native.Nat.{ℕ, _-_, _≤_, _<_, zero-le}
+use Prim.Native.Nat.{ℕ, _+_, _-_, _≤_, _<_, zero-le}
 use native.Mathlib.Omega.{arith}
 use borrow.Author.Tests.{lt-ltb, le-ltb}
 use lib.Dec.{ltb}
-use lib.ListN.{length, getD, take, drop, length-drop}
-use lib.Seq.{drop-at, drop-length, length-take-le, take-all}
+use lib.ListN.{length, getD, take, drop, replicate, length-replicate, length-append, length-drop}
+use lib.Seq.{drop-at, drop-drop, drop-length, length-take-le, take-all}
 use Rattle.sets.specs.Set.{has}
 use Rattle.sets.proofs.Booleans.{or-left, or-right}
 use Rattle.esterel.specs.Statement.{Statement, size, depth, Valid}
@@ -36,7 +36,6 @@ use Rattle.trim.specs.inner.Parts.{part, PartStands, Filled, Trimmable, 
 use Rattle.trim.specs.Answers.{trimmedOutcome, trimFor, bufferAfter}
 use Rattle.trim.specs.inner.Root.{Lent, Ends, Fields, Finished}
 use Rattle.trim.proofs.Levels.{map-closed}
-use Rattle.trim.proofs.Parts.{puts-length}
 use Rattle.trim.proofs.Refused.{no-exit, no-name, no-level}
 
 part-size : (t : Statement) → length (part t) ≤ size t
@@ -50,6 +49,10 @@ part-size t = go (isNothing t)
 abbrev root : Around
 root = record { started = true; tries = 0; kept = 0 }
 
+-- a list of all places, of which those that are held come last
+all-places : (n m : ℕ) (work : List ℕ) → length work ≡ m → (all : List ℕ) × (length all ≡ n + m) × (drop n all ≡ work)
+all-places n m work e = (replicate n 0 ++ work, length-append (replicate n 0) work ∙ ap₂ _+_ (length-replicate n 0) e, drop-at (replicate n 0) work n (length-replicate n 0))
+
 -- ---- trimming the root
 
 pub root-settles : {xs notes endings places work : List ℕ} → Loaded xs → Lent notes endings places work → Settleable xs notes endings
@@ -60,7 +63,7 @@ pub record AtRest (xs places work notes endings : List ℕ) (found : Settled) : 
   pub loaded : Loaded xs
   pub places-are : length places ≡ 64
   pub outermost : getD places 0 0 ≡ 0
-  pub work-is : length work ≡ 4096
+  pub work-is : length work ≡ 1024
   pub answer : Analysed
   pub rests : Rests xs answer notes endings
   pub is : answer ≡ Rest found
@@ -105,8 +108,7 @@ module _ {xs places work notes endings : List ℕ} {found : Settled} (A : AtRest
           all = A .loaded .all;
           known = A .loaded .known;
           room = omega (arith, A .loaded .next-is, A .loaded .few);
-          to-in = omega (arith, A .work-is);
-          work-is = A .work-is;
+          to-in = omega arith;
           tries-in = omega arith;
           kept-in = omega arith;
           wide = A .places-are;
@@ -131,15 +133,17 @@ module _ {xs places work notes endings : List ℕ} {found : Settled} (A : AtRest
 
     pub root-ends : {v : Part} {work₂ : List ℕ} → Filled work₁ 4096 p v work₂ → Ends result v work₂
     root-ends {v} {work₂} F =
-        let long = A .work-is in
+        let (all, long, is) = all-places 3072 1024 work (A .work-is) in
         let W = F .made result work (omega arith) made in
         let e = W .puts .from-is in
-        let t : length (take (v .from) work) ≡ v .from = length-take-le (v .from) work (omega arith) in
+        let t : length (take (v .from) all) ≡ v .from = length-take-le (v .from) all (omega arith) in
+        let none : drop 4096 all ≡ [] = ap (λ (n : ℕ). drop n all) (sym long) ∙ drop-length all in
         record {
-          stands =
-              ap (drop (v .from)) (W .puts .put) ∙ drop-at (take (v .from) work) (nodes result ++ drop 4096 work) (v .from) t
-              ∙ ap (λ (m : List ℕ). nodes result ++ m) (ap (λ (n : ℕ). drop n work) (sym long) ∙ drop-length work) ∙ append-nil (nodes result);
-          within = let n = puts-length (nodes result) work work₂ 4096 (v .from) (omega arith) (W .puts) in omega arith;
+          count = omega (arith, length-nodes result);
+          stands = λ h.
+              ap (drop (v .from - 3072)) (W .puts .put all long is) ∙ drop-drop (v .from - 3072) 3072 (take (v .from) all ++ (nodes result ++ drop 4096 all))
+              ∙ ap (λ (n : ℕ). drop n (take (v .from) all ++ (nodes result ++ drop 4096 all))) (let m : 3072 + (v .from - 3072) ≡ v .from = omega arith in m)
+              ∙ drop-at (take (v .from) all) (nodes result ++ drop 4096 all) (v .from) t ∙ ap (λ (m : List ℕ). nodes result ++ m) none ∙ append-nil (nodes result);
           deep = W .depth-is;
         }
 
@@ -147,10 +151,10 @@ module _ {xs places work notes endings : List ℕ} {found : Settled} (A : AtRest
 
 module _ (p : Part) (work out : List ℕ) where
   module _ (t : Statement) (E : Ends t p work) where
-    counted : size t ≡ length work - p .from
-    counted = sym (length-nodes t) ∙ ap length (sym (E .stands)) ∙ length-drop (p .from) work
+    counted : size t ≡ 4096 - p .from
+    counted = let e = E .count in omega arith
 
-    long : length (write t) ≡ lengthOf (length work - p .from)
+    long : length (write t) ≡ lengthOf (4096 - p .from)
     unfolding write
     long = length-writeNodes (nodes t) ∙ ap lengthOf (length-nodes t ∙ counted)
 
@@ -158,7 +162,7 @@ module _ (p : Part) (work out : List ℕ) where
     unfolding trimFor bufferAfter
     refused-12 h = (rw h, rw h)
 
-  pub finish-many : 1024 < length work - p .from → Finished work p out (Refused 12) out
+  pub finish-many : 1024 < 4096 - p .from → Finished work p out (Refused 12) out
   unfolding Finished trimmedOutcome
   finish-many h t E = refused-12 t E (or-left (ltb deepest (depth t)) (lt-ltb 1024 (size t) (omega (arith, counted t E))))
 
@@ -166,35 +170,40 @@ module _ (p : Part) (work out : List ℕ) where
   unfolding Finished trimmedOutcome
   finish-deep h t E = refused-12 t E (or-right (ltb 1024 (size t)) (lt-ltb deepest (depth t) (omega (arith, E .deep))))
 
-  module _ (few : length work - p .from ≤ 1024) (shallow : p .depth ≤ 60) where
+  module _ (few : 4096 - p .from ≤ 1024) (shallow : p .depth ≤ 60) where
     allowed : (t : Statement) → Ends t p work → (ltb 1024 (size t) || ltb deepest (depth t)) ≡ false
     allowed t E = rw (le-ltb 1024 (size t) (omega (arith, counted t E)), le-ltb deepest (depth t) (omega (arith, E .deep)))
 
-    pub finish-short : (b : ℕ) → b ≡ lengthOf (length work - p .from) → length out < b → Finished work p out (Refused 13) out
+    pub finish-short : (b : ℕ) → b ≡ lengthOf (4096 - p .from) → length out < b → Finished work p out (Refused 13) out
     unfolding Finished trimmedOutcome trimFor bufferAfter
     finish-short b e h t E =
         let l : ltb (length out) (length (write t)) ≡ true = lt-ltb (length out) (length (write t)) (omega (arith, long t E)) in
         (rw (allowed t E, l), rw (allowed t E, l))
 
-    module _ (b : ℕ) (e : b ≡ lengthOf (length work - p .from)) (room : b ≤ length out) where
-      slice-is : take (length work - p .from) (drop (p .from) work) ≡ drop (p .from) work
-      slice-is = take-all (length work - p .from) (drop (p .from) work) (omega (arith, length-drop (p .from) work))
+    module _ (b : ℕ) (e : b ≡ lengthOf (4096 - p .from)) (room : b ≤ length out) where
+      abbrev first : ℕ
+      first = p .from - 3072
 
-      pub finish-writable : Fields p work → Writable (take (length work - p .from) (drop (p .from) work)) (length out)
+      held : 3072 ≤ p .from
+      held = omega arith
+
+      abbrev slice : List ℕ
+      slice = take (length work - first) (drop first work)
+
+      slice-is : slice ≡ drop first work
+      slice-is = take-all (length work - first) (drop first work) (omega (arith, length-drop first work))
+
+      pub finish-writable : Fields p work → Writable slice (length out)
       finish-writable F =
-          rw slice-is (record {
-            few = omega (arith, length-drop (p .from) work);
-            fields = F .fields;
-            fits = rw (length-drop (p .from) work) (omega arith);
-          })
+          let count : length (drop first work) ≡ 4096 - p .from = length-drop first work ∙ (omega (arith, F .long, F .within)) in
+          rw slice-is (record { few = omega arith; fields = F .fields held; fits = rw count (omega arith) })
 
-      pub finish-written : (n : ℕ) (out′ : List ℕ)
-          → (n ≡ length (writeNodes (take (length work - p .from) (drop (p .from) work)))) × (out′ ≡ writeNodes (take (length work - p .from) (drop (p .from) work)) ++ drop n out)
-          → Finished work p out (Accepted (record { nodes = length work - p .from; bytes = b })) out′
+      pub finish-written : (n : ℕ) (out′ : List ℕ) → (n ≡ length (writeNodes slice)) × (out′ ≡ writeNodes slice ++ drop n out)
+          → Finished work p out (Accepted (record { nodes = 4096 - p .from; bytes = b })) out′
       unfolding Finished trimmedOutcome trimFor bufferAfter write
       finish-written n out′ w t E =
           let l : ltb (length out) (length (write t)) ≡ false = le-ltb (length out) (length (write t)) (omega (arith, long t E)) in
-          let is : take (length work - p .from) (drop (p .from) work) ≡ nodes t = slice-is ∙ E .stands in
+          let is : slice ≡ nodes t = slice-is ∙ E .stands held in
           let bytes : b ≡ length (write t) = e ∙ sym (long t E) in
           let put = subst (λ (m : List ℕ). (n ≡ length (writeNodes m)) × (out′ ≡ writeNodes m ++ drop n out)) is w in (
             rw (allowed t E, l) (ap₂ (λ (i j : ℕ). values (i ∷ j ∷ [])) (sym (counted t E)) bytes),

@@ -102,7 +102,7 @@ pub fn trim_at(
     left: usize,
     around: Around,
     places: &mut [u8; PLACES],
-    work: &mut [u16; work::ROOM],
+    work: &mut [u16; table::MOST_NODES],
     to: usize,
 ) -> Part
     requires { ⌜ Trimmable r (now nodes) (now notes) at left around (now places) (now work) to ⌝ }

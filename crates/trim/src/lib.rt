@@ -3,8 +3,8 @@
 // The cost: the nodes are cut out of the bytes and checked once; one pass, reach's, makes the summary that its rounds go by and
 // notes at the nodes what it found; one completes the notes and marks the try statements that are kept; one writes the trimmed
 // nodes, and one packs them. A pass looks at each node once and does a bounded number of steps there, whatever the depth.
-// Trimming works in an area of its own, four places for each node, and touches the caller's buffer only when the table is
-// known to fit.
+// Trimming works in an area of its own, which holds as many nodes as a table may have, and touches the caller's buffer only
+// when the table is known to fit.
 mod descent;
 mod marks;
 mod work;
@@ -29,9 +29,6 @@ const NO_KIND: u8 = 6;
 const TOO_LARGE: u8 = 12;
 
 const TOO_SHORT: u8 = 13;
-
-// The depth that a table may have, as a part counts it.
-const DEEPEST: u16 = 60;
 
 // A trimmed table: its nodes, and its length in bytes.
 pub struct Written {
@@ -61,7 +58,7 @@ fn trim_nodes(
     notes: &mut [u16; table::MOST_NODES],
     endings: &mut [u64; table::MOST_NODES],
     places: &mut [u8; descent::PLACES],
-    work: &mut [u16; work::ROOM],
+    work: &mut [u16; table::MOST_NODES],
 ) -> Laid
     requires { ⌜ Loaded (now nodes) ⌝ }
     requires { ⌜ Lent (now notes) (now endings) (now places) (now work) ⌝ }
@@ -80,7 +77,7 @@ fn trim_nodes(
         tries: 0,
         kept: 0,
     };
-    let to = work::ROOM;
+    let to = work::END;
     let part = descent::trim_at(
         nodes,
         notes,
@@ -104,22 +101,21 @@ fn finish(work: &[u16], part: Part, out: &mut [u8]) -> Trimmed
     ensures { λ r. ⌜ Finished (now (work .entry)) part (now (out .entry)) r (now (out .exit)) ⌝ }
 {
     let from = part.from;
-    let count = work.len() - from;
+    let count = work::END - from;
     if table::MOST_NODES < count {
         return Trimmed::Refused(TOO_LARGE);
     }
-    if DEEPEST < part.depth {
+    if table::DEEPEST < part.depth as usize {
         return Trimmed::Refused(TOO_LARGE);
     }
     let bytes = table::length_of(count);
     if out.len() < bytes {
         return Trimmed::Refused(TOO_SHORT);
     }
-    table::write_nodes(&work[from..], out);
-    Trimmed::Accepted(Written {
-        nodes: count as u16,
-        bytes,
-    })
+    let nodes = count as u16;
+    let first = from - work::HELD;
+    table::write_nodes(&work[first..], out);
+    Trimmed::Accepted(Written { nodes, bytes })
 }
 
 // Trim, with room lent for the nodes, what is noted of them, the places of try statements and the trimmed nodes.
@@ -130,7 +126,7 @@ fn trim_with(
     notes: &mut [u16; table::MOST_NODES],
     endings: &mut [u64; table::MOST_NODES],
     places: &mut [u8; descent::PLACES],
-    work: &mut [u16; work::ROOM],
+    work: &mut [u16; table::MOST_NODES],
 ) -> Trimmed
     requires { ⌜ (length (now nodes) ≡ 1024) × Known (now nodes) × Lent (now notes) (now endings) (now places) (now work) ⌝ }
     ensures { λ r. ⌜ (trimmedOutcome r ≡ trimOf (now (table .entry)) (length (now (out .entry)))) × (now (out .exit) ≡ bufferOf (now (table .entry)) (now (out .entry))) ⌝ }
@@ -154,7 +150,7 @@ pub fn trim(table: &[u8], out: &mut [u8]) -> Trimmed
     let mut notes = [0u16; table::MOST_NODES];
     let mut endings = [0u64; table::MOST_NODES];
     let mut places = [0u8; descent::PLACES];
-    let mut work = [0u16; work::ROOM];
+    let mut work = [0u16; table::MOST_NODES];
     trim_with(
         table,
         out,

@@ -40,7 +40,7 @@ fn refused() -> Exits
     }
 }
 
-// Whether a node of no kind was met, from the exits left at the root.
+// Whether a level is left at the root, which tells that a node of no kind was met. Bit 0 is no level's.
 pub fn is_refused(root: Exits) -> bool
     ensures { λ r. ⌜ r ≡ ltb 1 (root .started) ⌝ }
 {

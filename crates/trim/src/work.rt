@@ -5,13 +5,16 @@ use esterel::Level;
 ghost use mathlib.Core.Path.{_≡_};
 ghost use mathlib.Core.Bool.{true, cond};
 ghost use Prim.Native.Nat.{_-_, _≤_, _<_};
-ghost use lib.ListN.{length, set};
 ghost use Rattle.sets.specs.Set.{has};
 ghost use Rattle.table.specs.Writing.{node};
-ghost use Rattle.trim.specs.inner.Parts.{nothingAt, refusedAt, Fitting, LeafPut, Filled, Wrapped, PartsJoined, ElseClosed, PresentClosed};
+ghost use Rattle.trim.specs.inner.Parts.{heldWith, nothingAt, refusedAt, Fitting, LeafPut, Filled, Wrapped, PartsJoined, ElseClosed, PresentClosed};
 
-// The places of the work area: four for each node of a table.
-pub const ROOM: usize = 4096;
+// Where the trimmed statement ends. Places are counted down from here; a node of the source takes at most four.
+pub const END: usize = 4096;
+
+// The first place that the work area holds: from here to the end are as many as a table may have nodes. What stands before
+// is counted and not held, since its table is refused.
+pub const HELD: usize = 3072;
 
 // A number that no signal has: it is among those that a part names where a node of no kind was met.
 const REFUSED: u8 = 63;
@@ -60,24 +63,28 @@ pub fn is_refused(p: Part) -> bool
 }
 
 // One node in front of what stands from a place on. Its operand is in the range of its kind, so `node_of` leaves it as it is.
-fn put(work: &mut [u16; ROOM], from: usize, kind: u16, operand: u8) -> usize
+fn put(work: &mut [u16; table::MOST_NODES], from: usize, kind: u16, operand: u8) -> usize
     requires { ⌜ (1 ≤ from) × (from ≤ 4096) × Fitting kind operand ⌝ }
-    ensures { λ r. ⌜ (r ≡ from - 1) × (now (work .exit) ≡ set (now (work .entry)) (from - 1) (node kind operand)) ⌝ }
+    ensures { λ r. ⌜ (r ≡ from - 1) × (now (work .exit) ≡ heldWith (now (work .entry)) (from - 1) (node kind operand)) ⌝ }
 {
-    work[from - 1] = table::node_of(kind, operand);
-    from - 1
+    let at = from - 1;
+    if at < HELD {
+        return at;
+    }
+    work[at - HELD] = table::node_of(kind, operand);
+    at
 }
 
 // A statement of one node, or nothing.
 pub fn put_if(
-    work: &mut [u16; ROOM],
+    work: &mut [u16; table::MOST_NODES],
     to: usize,
     keep: bool,
     kind: u16,
     operand: u8,
     named: u64,
 ) -> Part
-    requires { ⌜ (1 ≤ to) × (to ≤ 4096) × (to ≤ length (now work)) × (keep ≡ true → Fitting kind operand) ⌝ }
+    requires { ⌜ (1 ≤ to) × (to ≤ 4096) × (keep ≡ true → Fitting kind operand) ⌝ }
     ensures { λ r. ⌜ LeafPut (node kind operand) named keep (now (work .entry)) to r (now (work .exit)) ⌝ }
 {
     if keep {
@@ -91,23 +98,29 @@ pub fn put_if(
 }
 
 // A pause or a gotopause, or nothing.
-pub fn put_label(work: &mut [u16; ROOM], to: usize, keep: bool, kind: u16, label: Label) -> Part
-    requires { ⌜ (1 ≤ to) × (to ≤ 4096) × (to ≤ length (now work)) × (keep ≡ true → Fitting kind (label .0)) ⌝ }
+pub fn put_label(
+    work: &mut [u16; table::MOST_NODES],
+    to: usize,
+    keep: bool,
+    kind: u16,
+    label: Label,
+) -> Part
+    requires { ⌜ (1 ≤ to) × (to ≤ 4096) × (keep ≡ true → Fitting kind (label .0)) ⌝ }
     ensures { λ r. ⌜ LeafPut (node kind (label .0)) 0 keep (now (work .entry)) to r (now (work .exit)) ⌝ }
 {
     put_if(work, to, keep, kind, label.0, 0)
 }
 
 // An exit, or nothing.
-pub fn put_exit(work: &mut [u16; ROOM], to: usize, keep: bool, level: Level) -> Part
-    requires { ⌜ (1 ≤ to) × (to ≤ 4096) × (to ≤ length (now work)) × (keep ≡ true → Fitting 4 (level .0)) ⌝ }
+pub fn put_exit(work: &mut [u16; table::MOST_NODES], to: usize, keep: bool, level: Level) -> Part
+    requires { ⌜ (1 ≤ to) × (to ≤ 4096) × (keep ≡ true → Fitting 4 (level .0)) ⌝ }
     ensures { λ r. ⌜ LeafPut (node 4 (level .0)) 0 keep (now (work .entry)) to r (now (work .exit)) ⌝ }
 {
     put_if(work, to, keep, table::EXIT, level.0, 0)
 }
 
 // Nothing gets its node where a statement has to stand.
-pub fn fill(work: &mut [u16; ROOM], p: Part, to: usize) -> Part
+pub fn fill(work: &mut [u16; table::MOST_NODES], p: Part, to: usize) -> Part
     requires { ⌜ (1 ≤ p .from) × (p .from ≤ 4096) ⌝ }
     ensures { λ r. ⌜ Filled (now (work .entry)) to p r (now (work .exit)) ⌝ }
 {
@@ -124,7 +137,7 @@ pub fn fill(work: &mut [u16; ROOM], p: Part, to: usize) -> Part
 
 // The part alone, or a statement over it.
 pub fn wrap_if(
-    work: &mut [u16; ROOM],
+    work: &mut [u16; table::MOST_NODES],
     p: Part,
     to: usize,
     wrap: bool,
@@ -146,7 +159,13 @@ pub fn wrap_if(
 }
 
 // Two parts, one before the other; one that is nothing is dropped.
-pub fn join_parts(work: &mut [u16; ROOM], p: Part, q: Part, to: usize, kind: u16) -> Part
+pub fn join_parts(
+    work: &mut [u16; table::MOST_NODES],
+    p: Part,
+    q: Part,
+    to: usize,
+    kind: u16,
+) -> Part
     requires { ⌜ (1 ≤ p .from) × (p .from ≤ 4096) × (p .depth ≤ 200) × (q .depth ≤ 200) × Fitting kind 0 ⌝ }
     ensures { λ r. ⌜ PartsJoined (node kind 0) (now (work .entry)) to p q r (now (work .exit)) ⌝ }
 {
@@ -167,7 +186,13 @@ pub fn join_parts(work: &mut [u16; ROOM], p: Part, q: Part, to: usize, kind: u16
 }
 
 // The else branch: whole where the present is started; in a try where it is resumed and the first branch can end.
-pub fn close_else(work: &mut [u16; ROOM], q: Part, to: usize, started: bool, guarded: bool) -> Part
+pub fn close_else(
+    work: &mut [u16; table::MOST_NODES],
+    q: Part,
+    to: usize,
+    started: bool,
+    guarded: bool,
+) -> Part
     requires { ⌜ (3 ≤ q .from) × (q .from ≤ 4096) × (q .depth ≤ 200) ⌝ }
     ensures { λ r. ⌜ ElseClosed started guarded (now (work .entry)) to q r (now (work .exit)) ⌝ }
 {
@@ -193,7 +218,7 @@ pub fn close_else(work: &mut [u16; ROOM], q: Part, to: usize, started: bool, gua
 
 // A present over its branches, or what is left of it where it is only resumed.
 pub fn close_present(
-    work: &mut [u16; ROOM],
+    work: &mut [u16; table::MOST_NODES],
     p: Part,
     q: Part,
     to: usize,

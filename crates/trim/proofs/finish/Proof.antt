@@ -33,6 +33,9 @@ sub-count c = search needs
 returns : tie.Need-returns
 returns c = let s = c .before .before .before in finish-many (part s) (work s) (out s) (c .if1 .taken)
 
+cast-if2 : tie.Need-cast-if2
+cast-if2 c = search needs
+
 returns-2 : tie.Need-returns-2
 returns-2 c = let s = c .before .before .before .before .before in finish-deep (part s) (work s) (out s) (c .if2 .taken)
 
@@ -45,6 +48,12 @@ returns-3 c =
     let e = l .before in
     let s = begun e in
     finish-short (part s) (work s) (out s) (few e .if1 .left) (e .if2 .left) (l .length-of .result) (l .length-of .ensures) (c .if3 .taken)
+
+cast-nodes : tie.Need-cast-nodes
+cast-nodes c = search needs
+
+sub-first : tie.Need-sub-first
+sub-first c = search needs
 
 mul-write-nodes : tie.Need-mul-write-nodes
 mul-write-nodes c = search needs
@@ -66,9 +75,6 @@ write-nodes-requires c κs =
     let s = begun e in
     finish-writable (part s) (work s) (out s) (few e .if1 .left) (e .if2 .left) (l .length-of .result) (l .length-of .ensures) (r .if3 .left) (s .pre)
 
-cast-t16 : tie.Need-cast-t16
-cast-t16 c = search needs
-
 same-length : tie.Need-same-length
 same-length c = search needs
 
@@ -88,14 +94,16 @@ finish-spec =
     (tie.spec
     sub-count
     returns
+    cast-if2
     returns-2
     length-of-requires
     returns-3
+    cast-nodes
+    sub-first
     mul-write-nodes
     sub-write-nodes
     part-write-nodes-start
     part-write-nodes-end
     write-nodes-requires
-    cast-t16
     same-length
     returns-4)

@@ -4,7 +4,8 @@ use Prim.Native.Nat.{ℕ, suc, _+_, _-_, _*_, _≤_, _<_, max}
 use mathlib.Core.Path.{_≡_}
 use mathlib.Core.Bool.{Bool, true, false, cond, _||_}
 use mathlib.Core.List.{List, [], _∷_, _++_}
-use lib.ListN.{length, getD, take, drop}
+use lib.Dec.{ltb}
+use lib.ListN.{length, getD, set, take, drop}
 use Rattle.sets.specs.Set.{has, only}
 use Rattle.esterel.specs.Statement.{Statement, nothing, present, sequence, depth, Valid}
 use Rattle.esterel.specs.Trimming.{isNothing, names, endsAt, joinParts, trim}
@@ -26,9 +27,13 @@ part t = cond (isNothing t) [] (nodes t)
 unfoldable pub partDepth : Statement → ℕ
 partDepth t = cond (isNothing t) 0 (depth t)
 
--- the list was written so that it ends at `to`; the rest is as it was
+-- places are counted from 0 to 4,096, and the work area holds those from 3,072 on: with x at a place
+abbrev pub heldWith : List ℕ → ℕ → ℕ → List ℕ
+heldWith work at x = cond (ltb at 3072) work (set work (at - 3072) x)
+
+-- the list was written so that it ends at `to`, whatever stands in the places that are not held; the rest is as it was
 pub record Puts (l work : List ℕ) (to from : ℕ) (work′ : List ℕ) : Type 0 where
-  pub put : work′ ≡ take from work ++ (l ++ drop to work)
+  pub put : (all : List ℕ) → length all ≡ 4096 → drop 3072 all ≡ work → work′ ≡ drop 3072 (take from all ++ (l ++ drop to all))
   pub from-is : from + length l ≡ to
 
 pub record Stands (l : List ℕ) (deep : ℕ) (t : Statement) (work : List ℕ) (to : ℕ) (r : Part) (work′ : List ℕ) : Type 0 where
@@ -92,19 +97,19 @@ pub record LeafPut (x named : ℕ) (keep : Bool) (work : List ℕ) (to : ℕ) (r
 
 -- a part that is nothing gets its node
 pub record Filled (work : List ℕ) (to : ℕ) (p r : Part) (work′ : List ℕ) : Type 0 where
-  pub made : (t : Statement) (before : List ℕ) → to ≤ length before → PartStands t before to p work → WholeStands t before to r work′
+  pub made : (t : Statement) (before : List ℕ) → to ≤ 4096 → PartStands t before to p work → WholeStands t before to r work′
   pub near : p .from ≤ r .from + 1
   pub below : r .from ≤ p .from
   pub shallow : r .depth ≤ p .depth + 1
 
 pub record Wrapped (x : ℕ) (z : Bool) (work : List ℕ) (to : ℕ) (p r : Part) (work′ : List ℕ) : Type 0 where
-  pub made : (f : Statement → Statement) (t : Statement) (before : List ℕ) → Wraps f x → to ≤ length before
+  pub made : (f : Statement → Statement) (t : Statement) (before : List ℕ) → Wraps f x → to ≤ 4096
       → PartStands t before to p work → PartStands (wrapIf f z t) before to r work′
   pub near : p .from ≤ r .from + 2
   pub shallow : r .depth ≤ p .depth + 2
 
 pub record PartsJoined (x : ℕ) (work : List ℕ) (to : ℕ) (p q r : Part) (work′ : List ℕ) : Type 0 where
-  pub made : (f : Statement → Statement → Statement) (s t : Statement) (before between : List ℕ) → Joins f x 0 → to ≤ length before
+  pub made : (f : Statement → Statement → Statement) (s t : Statement) (before between : List ℕ) → Joins f x 0 → to ≤ 4096
       → PartStands t before to q between → PartStands s between (q .from) p work → PartStands (joinParts f s t) before to r work′
   pub near : p .from ≤ r .from + 1
   pub shallow : r .depth ≤ max (p .depth) (q .depth) + 1
@@ -123,12 +128,12 @@ presentIf true S s t = present S s t
 presentIf false S s t = joinParts sequence s t
 
 pub record ElseClosed (started z : Bool) (work : List ℕ) (to : ℕ) (q r : Part) (work′ : List ℕ) : Type 0 where
-  pub made : (t : Statement) (before : List ℕ) → to ≤ length before → PartStands t before to q work → Branch started (branchIf started z t) before to r work′
+  pub made : (t : Statement) (before : List ℕ) → to ≤ 4096 → PartStands t before to q work → Branch started (branchIf started z t) before to r work′
   pub near : q .from ≤ r .from + cond started 1 3
   pub shallow : r .depth ≤ q .depth + 2
 
 pub record PresentClosed (started : Bool) (S : ℕ) (work : List ℕ) (to : ℕ) (p q r : Part) (work′ : List ℕ) : Type 0 where
-  pub made : (s t : Statement) (before between : List ℕ) → to ≤ length before
+  pub made : (s t : Statement) (before between : List ℕ) → to ≤ 4096
       → Branch started t before to q between → PartStands s between (q .from) p work → PartStands (presentIf started S s t) before to r work′
   pub near : p .from ≤ r .from + cond started 2 1
   pub shallow : r .depth ≤ max (p .depth + 1) (q .depth) + 1
@@ -146,8 +151,7 @@ pub record Trimmable (R : ℕ) (xs notes : List ℕ) (at left : ℕ) (a : Around
   pub all : length xs ≡ 1024
   pub known : Known xs
   pub room : 4 * statementAt left xs at .next ≤ to + 4 * at
-  pub to-in : to ≤ length work
-  pub work-is : length work ≡ 4096
+  pub to-in : to ≤ 4096
   pub tries-in : a .tries + left ≤ 60
   pub kept-in : a .kept + left ≤ 60
   pub wide : length places ≡ 64

@@ -1,10 +1,10 @@
 -- Trimming a whole statement: where the trimmed statement stands, and how the operation ends.
-use Prim.Native.Nat.{ℕ, _≤_}
+use Prim.Native.Nat.{ℕ, _+_, _-_, _≤_}
 use mathlib.Core.Path.{_≡_}
 use mathlib.Core.Logic.{_≢_}
 use mathlib.Core.List.{List}
 use lib.ListN.{length, getD, drop}
-use Rattle.esterel.specs.Statement.{Statement, depth}
+use Rattle.esterel.specs.Statement.{Statement, size, depth}
 use Rattle.table.specs.Bits.{Below}
 use Rattle.table.specs.Writing.{nodes}
 use Rattle.trim.specs.declared.work.Laid.{Laid}
@@ -19,12 +19,12 @@ pub record Lent (notes endings places work : List ℕ) : Type 0 where
   pub endings-are : length endings ≡ 1024
   pub places-are : length places ≡ 64
   pub outermost : getD places 0 0 ≡ 0
-  pub work-is : length work ≡ 4096
+  pub work-is : length work ≡ 1024
 
--- the statement q stands at the end of the work area
+-- the statement q stands at the end of the work area, as far as that holds it
 pub record Ends (q : Statement) (part : Part) (work : List ℕ) : Type 0 where
-  pub stands : drop (part .from) work ≡ nodes q
-  pub within : part .from ≤ length work
+  pub count : part .from + size q ≡ 4096
+  pub stands : 3072 ≤ part .from → drop (part .from - 3072) work ≡ nodes q
   pub deep : part .depth ≡ depth q
 
 -- it stands there, and no node was of no kind
@@ -35,10 +35,10 @@ pub record LaidOut (q : Statement) (laid : Laid) (work : List ℕ) : Type 0 wher
 
 -- nodes at the end of the work area that fit their fields
 pub record Fields (part : Part) (work : List ℕ) : Type 0 where
-  pub within : part .from ≤ length work
-  pub few : length work ≤ 4096
+  pub within : part .from ≤ 4096
   pub some : part .from ≢ 0
-  pub fields : Below 1024 (drop (part .from) work)
+  pub long : length work ≡ 1024
+  pub fields : 3072 ≤ part .from → Below 1024 (drop (part .from - 3072) work)
 
 -- the end of trimming, whatever statement stands there
 unfoldable pub Finished : List ℕ → Part → List ℕ → Trimmed → List ℕ → Type 0

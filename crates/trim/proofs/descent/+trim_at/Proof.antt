@@ -229,16 +229,16 @@ module _ (t : ℕ) where
       let m = c .before .before in
       let a = m .before in
       let n = node t a (m .match .keys2) in
-      let (one, most, fits) = leaf-room (given t a) n in
-      (one, most, fits, λ k. pause-fits (given t a) n (read t a .operand-of .result) (read t a .operand-of .ensures))
+      let (one, most) = leaf-room (given t a) n in
+      (one, most, λ k. pause-fits (given t a) n (read t a .operand-of .result) (read t a .operand-of .ensures))
 
   put-label-requires-2 : trim-at-lts.Need-put-label-requires-2 (claims t) (trim-at-at t) trim-at.Post
   put-label-requires-2 c κs =
       let m = c .before in
       let a = m .before in
       let n = node t a (m .match .keys3) in
-      let (one, most, fits) = leaf-room (given t a) n in
-      (one, most, fits, λ k. gotopause-fits (given t a) n (read t a .operand-of .result) (read t a .operand-of .ensures))
+      let (one, most) = leaf-room (given t a) n in
+      (one, most, λ k. gotopause-fits (given t a) n (read t a .operand-of .result) (read t a .operand-of .ensures))
 
   singleton-requires : trim-at-lts.Need-singleton-requires (claims t) (trim-at-at t) trim-at.Post
   singleton-requires c κs = search needs
@@ -248,8 +248,8 @@ module _ (t : ℕ) where
       let m = c .before .before in
       let a = m .before in
       let n = node t a (m .match .keys4) in
-      let (one, most, fits) = leaf-room (given t a) n in
-      (one, most, fits, λ k. emit-fits (given t a) n (read t a .operand-of .result) (read t a .operand-of .ensures))
+      let (one, most) = leaf-room (given t a) n in
+      (one, most, λ k. emit-fits (given t a) n (read t a .operand-of .result) (read t a .operand-of .ensures))
 
   level-out-requires : trim-at-lts.Need-level-out-requires (claims t) (trim-at-at t) trim-at.Post
   level-out-requires c κs =
@@ -263,8 +263,8 @@ module _ (t : ℕ) where
       let m = l .before .before in
       let a = m .before in
       let n = node t a (m .match .keys5) in
-      let (one, most, fits) = leaf-room (given t a) n in
-      (one, most, fits, level-fits (given t a) n (read t a .operand-of .ensures) (l .level-out .result .0) (l .level-out .ensures))
+      let (one, most) = leaf-room (given t a) n in
+      (one, most, level-fits (given t a) n (read t a .operand-of .ensures) (l .level-out .result .0) (l .level-out .ensures))
 
   trim-at-requires : trim-at-lts.Need-trim-at-requires (claims t) (trim-at-at t) trim-at.Post
   trim-at-requires c κs =
