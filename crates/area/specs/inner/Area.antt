@@ -34,8 +34,8 @@ collect ts = cap (sorted ts)
 abbrev pub Low : ℕ → List ℕ → List ℕ → Type 0
 Low base a b = (i : ℕ) → i < base → getD b i 0 ≡ getD a i 0
 
--- From a to b the list v was written at base, and n says how that ended: so many reactions; 65, there are over 64;
--- 66, the area was too small, which one of `need` words is not.
+-- From a to b the list v was written at base, and n says how that ended: so many reactions; 65, there are over 64; a number
+-- above 65 comes only where the area has fewer than `need` words.
 pub record Made (a b : List ℕ) (base need : ℕ) (v : Option (List Reaction)) (n : ℕ) : Type 0 where
   pub same : length b ≡ length a
   pub low : Low base a b
