@@ -23,9 +23,12 @@ ghost use Prim.Native.Nat.{_+_, _/_, _%_, _^_, _≤_, _<_};
 ghost use lib.Dec.{eqb, ltb};
 ghost use lib.ListN.{length, take, drop};
 ghost use Rattle.sets.specs.Set.{has};
-ghost use Rattle.table.specs.Reading.{lengthOf, headerOf, nodesOf, readFrom, deepest, wholeOf, checkedOutcome, checkIn, checkOf};
+ghost use Rattle.table.specs.Reading.{lengthOf, countOf, headerOf, nodesOf, readFrom, deepest, wholeOf, checkedOutcome, checkIn, checkOf};
 ghost use Rattle.table.specs.Outcomes.{numberOf};
 ghost use Rattle.table.specs.inner.Loading.{Rows, wordAt, Cut, loadedOf, fieldFault, Walked};
+
+// The bits of the first word that are the node count, behind the four of the edition.
+const COUNT: u16 = 0xfff;
 
 // Two bytes as a number.
 fn word_at(table: &[u8], at: usize) -> u16
@@ -33,6 +36,16 @@ fn word_at(table: &[u8], at: usize) -> u16
     ensures { λ r. ⌜ r ≡ wordAt (now (table .entry)) at ⌝ }
 {
     (table[at] as u16) << 8 | table[at + 1] as u16
+}
+
+// "12 bits node count N", whether or not the table is accepted; 0 where there are no two bytes.
+pub fn count_in(table: &[u8]) -> u16
+    ensures { λ r. ⌜ r ≡ cond (ltb (length (now (table .entry))) 2) 0 (countOf (now (table .entry))) ⌝ }
+{
+    if table.len() < 2 {
+        return 0;
+    }
+    word_at(table, 0) & COUNT
 }
 
 // Tests 1 to 5. Accepted gives the node count.
@@ -46,7 +59,7 @@ fn header(table: &[u8]) -> Checked
     if word >> 12 != 1 {
         return Checked::Refused(2);
     }
-    let n = word & 0xfff;
+    let n = word & COUNT;
     if n == 0 {
         return Checked::Refused(3);
     }
