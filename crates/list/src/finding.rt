@@ -131,14 +131,14 @@ fn find_marked(
     marking::mark_front(nodes, count, ends, nests, pauses);
     let nest = nests[0];
     if nest == marking::REFUSED {
-        return Answer::Refused(6);
+        return Answer::Refused(table::NO_KIND);
     }
     if MOST_NESTED < nest {
         return Answer::Refused(14);
     }
     let n = reactions_in(nodes, ends, pauses, assumed as u64, mark, labels, area);
     if n == area::REFUSED {
-        return Answer::Refused(6);
+        return Answer::Refused(table::NO_KIND);
     }
     if n > area::MOST {
         return Answer::Refused(15);

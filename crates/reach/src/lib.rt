@@ -120,8 +120,7 @@ fn reach_with(table: &[u8], nodes: &mut [u16; table::MOST_NODES]) -> Reached
     };
     let analysed = rounds_of(nodes);
     let Analysed::Rest(found) = analysed else {
-        // "6 kind above 10"
-        return Reached::Refused(6);
+        return Reached::Refused(table::NO_KIND);
     };
     let start = found.start;
     Reached::Found {

@@ -22,9 +22,6 @@ ghost use Rattle.table.specs.inner.Places.{statementOf, Known, Loaded};
 ghost use Rattle.trim.specs.Answers.{trimmedOutcome, trimOf, bufferOf};
 ghost use Rattle.trim.specs.inner.Root.{Lent, LaidOut, Fields, Finished};
 
-// "6 kind above 10": a pass over the nodes met one of no kind, which check lets through nowhere.
-const NO_KIND: u8 = 6;
-
 // "12 the trimmed table has over 1,024 nodes or depth over 60; 13 the output buffer is shorter than the trimmed table."
 const TOO_LARGE: u8 = 12;
 
@@ -137,7 +134,7 @@ fn trim_with(
     };
     let laid = trim_nodes(nodes, notes, endings, places, work);
     let Laid::At(part) = laid else {
-        return Trimmed::Refused(NO_KIND);
+        return Trimmed::Refused(table::NO_KIND);
     };
     finish(work, part, out)
 }
