@@ -13,13 +13,13 @@ use Rattle.sets.proofs.Members.{has-empty}
 use Rattle.esterel.specs.Statement.{Statement, nothing, pause, gotopause, emit, exit, signal, present, sequence, parallel, loop, try, pauses, size, depth, Valid}
 use Rattle.table.specs.Bits.{bits, Below}
 use Rattle.table.specs.Reading.{Reading, readFrom, lengthOf, headerOf, deepest, Table, holds, wholeOf, tableAfter, tableOf}
-use Rattle.table.specs.Writing.{node, nodes, Ranged, Allowed, nodeBits, writeNodes, write}
+use Rattle.table.specs.Writing.{node, nodes, Allowed, nodeBits, writeNodes, write}
 use Rattle.table.specs.inner.Making.{Writable}
 use Rattle.table.proofs.Bits.{below-cons, below-append, below-bytesOf}
 use Rattle.table.proofs.Fields.{length-writeNodes, below-fields, headed-written, crowded-written, nodes-written, headed-accepted, nodes-again}
 use Rattle.table.proofs.Nodes.{length-nodes}
 use Rattle.table.proofs.Accepted.{read-faithful, accepted}
-use Rattle.table.proofs.ReadBack.{Outcome, back, refused, read-back}
+use Rattle.table.proofs.ReadBack.{Ranged, Reread, back, refused, read-back}
 
 -- ---- The nodes of a statement fit their fields
 
@@ -77,10 +77,6 @@ pub length-write : (p : Statement) → length (write p) ≡ lengthOf (size p)
 unfolding write
 length-write p = length-writeNodes (nodes p) ∙ ap lengthOf (length-nodes p)
 
--- the writer may be called with its nodes
-pub writable : (p : Statement) (room : ℕ) → Ranged p → size p < 4096 → lengthOf (size p) ≤ room → Writable (nodes p) room
-writable p room r few fits = record { few = rw length-nodes few; fields = below-nodes p r; fits = rw length-nodes fits }
-
 -- what is written are bytes
 pub below-write : (p : Statement) → Below 256 (write p)
 unfolding write writeNodes
@@ -101,7 +97,7 @@ answer p ranged few = go (decLe (size p) 1024)
     fields : Below 1024 (nodes p)
     fields = below-nodes p ranged
 
-    whole : (r : Reading) → readFrom deepest 0 0 (nodes p) ≡ r → size p ≤ 1024 → Outcome deepest 0 0 p [] r → Answer p (wholeOf (size p) r)
+    whole : (r : Reading) → readFrom deepest 0 0 (nodes p) ≡ r → size p ≤ 1024 → Reread deepest 0 0 p [] r → Answer p (wholeOf (size p) r)
     whole r made h (back e) =
         let a = read-faithful deepest 0 0 (nodes p) p [] (0 union pauses p) (made ∙ e) in
         same (record { valid = a .valid; few = h; deep = a .deep }) (rw e)
@@ -111,7 +107,7 @@ answer p ranged few = go (decLe (size p) 1024)
     go : Dec (size p ≤ 1024) → Answer p (tableAfter (headerOf (writeNodes (nodes p))) (writeNodes (nodes p)))
     go (yes h) =
         let H = headed-accepted (writeNodes (nodes p)) (length (nodes p)) (headed-written (nodes p) few′ fields (rw length-nodes (size-positive p)) (rw length-nodes h)) in
-        rw (H, nodes-written (nodes p) few′ fields, length-nodes p) (whole (readFrom deepest 0 0 (nodes p)) refl h (subst (λ (l : List ℕ). Outcome deepest 0 0 p [] (readFrom deepest 0 0 l)) (append-nil (nodes p)) (read-back p ranged deepest 0 0 [])))
+        rw (H, nodes-written (nodes p) few′ fields, length-nodes p) (whole (readFrom deepest 0 0 (nodes p)) refl h (subst (λ (l : List ℕ). Reread deepest 0 0 p [] (readFrom deepest 0 0 l)) (append-nil (nodes p)) (read-back p ranged deepest 0 0 [])))
     go (no h) = none (λ a. h (a .few)) 3 (rw (crowded-written (nodes p) few′ fields (rw length-nodes (omega arith))))
 
 -- ---- The two inverse laws
@@ -135,9 +131,6 @@ one-statement t n n′ p p′ h h′ = cc
 
 pub one-table : (p : Statement) → Allowed p → (t : List ℕ) → Below 256 t → (tableOf t ≡ holds (size p) p) ↔ (t ≡ write p)
 one-table p a t bytes = (λ h. sym (write-read t (size p) p bytes h), λ e. ap tableOf e ∙ read-written p a)
-
-pub same-table : (t t′ : List ℕ) (n n′ : ℕ) (p : Statement) → Below 256 t → Below 256 t′ → tableOf t ≡ holds n p → tableOf t′ ≡ holds n′ p → t ≡ t′
-same-table t t′ n n′ p bytes bytes′ h h′ = sym (write-read t n p bytes h) ∙ write-read t′ n′ p bytes′ h′
 
 -- ---- Beyond the limits
 

@@ -2,6 +2,7 @@
 use crate::Checked;
 use crate::DEEPEST;
 use crate::MOST_NODES;
+use crate::NO_KIND;
 use crate::Row;
 use crate::kinds::EMIT;
 use crate::kinds::EXIT;
@@ -215,8 +216,8 @@ fn walk(
         GOTOPAUSE..=EMIT => return fault,
         EXIT => return first_of(fault, level_fault(Level(operand), tries)),
         SIGNAL..=TRY => tries + tried(kind),
-        11..=15 => return 6,
-        _ => return 6,
+        11..=15 => return NO_KIND,
+        _ => return NO_KIND,
     };
     if fault != 0 {
         return fault;

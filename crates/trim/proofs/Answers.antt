@@ -1,13 +1,13 @@
 -- The answer of trim, from what loading, trimming and the end gave. And what is written is a table: check accepts it, and it
--- reads as the trimmed statement.
+-- reads as the trimmed statement. And 0 is no refusal of trim.
 use mathlib.Core.Path.{_≡_, refl, sym, ap, _∙_, subst}
 use mathlib.Core.Bool.{Bool, true, false, cond, _||_}
-use mathlib.Core.List.{List, _++_}
-use Prim.Native.Nat.{ℕ, _-_, _≤_}
+use mathlib.Core.List.{List, [], _∷_, _++_}
+use Prim.Native.Nat.{ℕ, _≤_}
 use native.Mathlib.Omega.{arith}
 use borrow.Author.Tests.{ltb-false}
 use lib.Dec.{ltb}
-use lib.ListN.{length, take, drop, length-drop}
+use lib.ListN.{length, take, drop}
 use lib.Seq.{take-at}
 use Rattle.sets.proofs.Booleans.{or-neither}
 use Rattle.esterel.specs.Statement.{Statement, size, depth, Valid}
@@ -16,140 +16,150 @@ use Rattle.esterel.proofs.Validity.{valid-trimmed, size-trimmed}
 use Rattle.table.specs.declared.Checked.{Checked}
 use Rattle.table.specs.declared.Checked.the-variants as checked
 use Rattle.table.specs.Bits.{Below}
-use Rattle.table.specs.Reading as reading
-use Rattle.table.specs.Reading.{Table, refused, holds, tableOf, checkOf, deepest}
+use Rattle.table.specs.Outcomes.{Outcome, refusal, values, numberOf}
+use Rattle.table.specs.Reading.{Table, refused, holds, tableOf, checkedOutcome, checkIn, checkOf, deepest}
 use Rattle.table.specs.inner.Loading.{loadedOf}
-use Rattle.table.specs.inner.Places.{Placed}
+use Rattle.table.specs.inner.Places.{statementOf, Known}
 use Rattle.table.specs.Writing.{nodes, write, Allowed}
-use Rattle.table.proofs.Accepted.{accepted, check-accepted}
-use Rattle.table.proofs.Loading.{placed-loaded}
-use Rattle.table.proofs.Nodes.{length-nodes}
+use Rattle.table.proofs.Accepted.{accepted}
+use Rattle.table.proofs.Loading.{load-refuses, load-holds, load-statement, load-loaded}
+use Rattle.table.proofs.Refusals.{table-refusals, zero-accepted}
 use Rattle.table.proofs.RoundTrip.{below-nodes, valid-ranged, read-written}
-use Rattle.reach.specs.inner.Rounds.{statementOf}
-use Rattle.reach.proofs.Answers.{loaded-statement, loaded-length}
+use Rattle.trim.specs.declared.work.Laid.{Laid}
+use Rattle.trim.specs.declared.work.Laid.the-variants as laid-as
 use Rattle.trim.specs.declared.work.Part.{Part}
-use Rattle.trim.specs.declared.Written.{Written}
 use Rattle.trim.specs.declared.Trimmed.{Trimmed}
 use Rattle.trim.specs.declared.Trimmed.the-variants.{Refused, Accepted}
-use Rattle.trim.specs.Answers.{writtenOf, answerFor, bufferAfter, bufferFor, answerOf, leftOf, trimOf, bufferOf}
-use Rattle.trim.specs.inner.Root.{Tree, Ends, Fields, Finished}
+use Rattle.trim.specs.Answers.{trimmedOutcome, trimFor, bufferAfter, trimIn, bufferIn, trimOf, bufferOf}
+use Rattle.trim.specs.inner.Root.{Ends, LaidOut, Fields, Finished}
 
--- ---- the buffer with the nodes of an accepted table
+-- ---- where the trimmed statement stands
 
-loaded-tree : (t old : List ℕ) (n : ℕ) (p : Statement) → tableOf t ≡ holds n p → length old ≡ 1024 → Tree (loadedOf t old)
-loaded-tree t old n p h l =
-    let a = accepted t n p h in
-    let few = a .header .few in
-    let is : statementOf (loadedOf t old) ≡ p = loaded-statement t old n p h in
-    record {
-      all = loaded-length t old n p h l;
-      few = subst (λ (x : Placed). x .next ≤ 1024) (sym (placed-loaded t old n p h)) few;
-      valid = subst (Valid 0) (sym is) (a .valid);
-      shallow = subst (λ (q : Statement). depth q ≤ deepest) (sym is) (a .deep);
-      small = subst (λ (q : Statement). size q ≤ 1024) (sym is) (omega (arith, a .count));
-    }
+pub never-laid : {q : Statement} {laid : Laid} {work : List ℕ} → LaidOut q laid work → laid ≡ laid-as.Refused → ⊥
+never-laid L e = let z : _≡_ {A = ℕ} 0 1 = cc (sym e ∙ L .at) in omega arith
+
+pub laid-ends : {q : Statement} {laid : Laid} {work : List ℕ} → LaidOut q laid work → {part : Part} → laid ≡ laid-as.At part → Ends q part work
+laid-ends {q} {laid} {work} L e = subst (λ (p : Part). Ends q p work) (same (sym (L .at) ∙ e)) (L .ends)
+  where
+    same : {f g : Part} → laid-as.At f ≡ laid-as.At g → f ≡ g
+    same e = cc
 
 -- ---- the answer
 
-module _ (t old new : List ℕ) (c : Checked) (h : (c ≡ checkOf t) × (new ≡ loadedOf t old)) (out : List ℕ) where
-  pub trim-refused : (w x : ℕ) → c ≡ checked.Refused w → x ≡ reading.refusalOf c → (Refused x ≡ trimOf t (length out)) × (out ≡ bufferOf t out)
-  unfolding trimOf bufferOf answerOf leftOf checkOf reading.answerOf reading.refusalOf
-  trim-refused w x e f = go (tableOf t) (sym (h .0) ∙ e)
-    where
-      go : (T : Table) → reading.answerOf T ≡ checked.Refused w → (Refused x ≡ answerOf T (length out)) × (out ≡ leftOf T out)
-      go (refused v) q = let same : x ≡ w = f ∙ ap reading.refusalOf e in let back : v ≡ w = cc in (ap Refused (same ∙ sym back), refl)
-      go (holds n p) q = absurd (let z : _≡_ {A = ℕ} 0 1 = cc in omega arith)
+module _ (t old new : List ℕ) (c : Checked) (h : (checkedOutcome c ≡ checkOf t) × (new ≡ loadedOf t old)) (out : List ℕ) where
+  pub trim-refused : (w x : ℕ) → c ≡ checked.Refused w → x ≡ numberOf (checkedOutcome c)
+      → (trimmedOutcome (Refused x) ≡ trimOf t (length out)) × (out ≡ bufferOf t out)
+  unfolding trimOf bufferOf trimIn bufferIn trimmedOutcome
+  trim-refused w x e f =
+      let q = load-refuses t old new c h w x e f in
+      (sym (ap (λ (T : Table). trimIn T (length out)) q), sym (ap (λ (T : Table). bufferIn T out) q))
 
   module _ (n : ℕ) (e : c ≡ checked.Accepted n) where
-    held : (p : Statement) × (tableOf t ≡ holds n p)
-    held = check-accepted t n (sym (h .0) ∙ e)
-
-    pub front-tree : length old ≡ 1024 → Tree new
-    front-tree l = subst Tree (sym (h .1)) (loaded-tree t old n (held .0) (held .1) l)
-
     module _ (part : Part) (work : List ℕ) (E : Ends (trimmed (statementOf new)) part work) where
-      pub end-fields : length old ≡ 1024 → length work ≡ 4096 → Fields part work
-      end-fields k l =
+      pub end-fields : length old ≡ 1024 → Known old → length work ≡ 1024 → Fields part work
+      end-fields k known l =
           let q : Statement = trimmed (statementOf new) in
-          let count : size q ≡ length work - part .from = sym (length-nodes q) ∙ ap length (sym (E .stands)) ∙ length-drop (part .from) work in
+          let L = load-loaded t old new c h n e k known in
           let few = size-trimmed (statementOf new) in
-          let tree = front-tree k in
-          let small = tree .small in
-          let valid : Valid 0 q = valid-trimmed (statementOf new) (tree .shallow) (tree .valid) in
+          let small = L .few in
+          let valid : Valid 0 q = valid-trimmed (statementOf new) (L .shallow) (L .valid) in
           record {
-            within = E .within;
-            few = omega arith;
-            some = λ z. omega arith;
-            fields = subst (Below 1024) (sym (E .stands)) (below-nodes q (valid-ranged 0 q valid));
+            within = omega (arith, E .count);
+            some = λ z. omega (arith, E .count);
+            long = l;
+            fields = λ held. subst (Below 1024) (sym (E .stands held)) (below-nodes q (valid-ranged 0 q valid));
           }
 
-      pub trim-done : (r : Trimmed) (out′ : List ℕ) → Finished work part out r out′ → (r ≡ trimOf t (length out)) × (out′ ≡ bufferOf t out)
-      unfolding Finished trimOf bufferOf answerOf leftOf
+      pub trim-done : (r : Trimmed) (out′ : List ℕ) → Finished work part out r out′ → (trimmedOutcome r ≡ trimOf t (length out)) × (out′ ≡ bufferOf t out)
+      unfolding Finished trimOf bufferOf trimIn bufferIn
       trim-done r out′ F =
-          let now : statementOf new ≡ held .0 = ap statementOf (h .1) ∙ loaded-statement t old n (held .0) (held .1) in
-          let got = F (trimmed (held .0)) (subst (λ (p : Statement). Ends (trimmed p) part work) now E) in
-          (got .0 ∙ sym (ap (λ (T : Table). answerOf T (length out)) (held .1)), got .1 ∙ sym (ap (λ (T : Table). leftOf T out) (held .1)))
+          let (p, held) = load-holds t old new c h n e in
+          let got = F (trimmed p) (subst (λ (p : Statement). Ends (trimmed p) part work) (load-statement t old new c h n e) E) in
+          (got .0 ∙ sym (ap (λ (T : Table). trimIn T (length out)) held), got .1 ∙ sym (ap (λ (T : Table). bufferIn T out) held))
 
 -- ---- what was written
 
-allowed-trimmed : (p : Statement) → Valid 0 p → depth p ≤ deepest → (room : ℕ) (w : Written) → answerFor (trimmed p) room ≡ Accepted w
-    → Allowed (trimmed p) × (w ≡ writtenOf (trimmed p)) × (length (write (trimmed p)) ≤ room)
-unfolding answerFor
-allowed-trimmed p v d room w = go (ltb 1024 (size (trimmed p)) || ltb deepest (depth (trimmed p))) refl (ltb room (length (write (trimmed p)))) refl
+allowed-trimmed : (p : Statement) → Valid 0 p → depth p ≤ deepest → (room n bytes : ℕ) → trimFor (trimmed p) room ≡ values (n ∷ bytes ∷ [])
+    → Allowed (trimmed p) × (n ≡ size (trimmed p)) × (bytes ≡ length (write (trimmed p)))
+unfolding trimFor
+allowed-trimmed p v d room n bytes = go (ltb 1024 (size (trimmed p)) || ltb deepest (depth (trimmed p))) refl (ltb room (length (write (trimmed p))))
   where
-    never : (why : ℕ) → Refused why ≡ Accepted w → ⊥
+    never : (why : ℕ) → refusal why ≡ values (n ∷ bytes ∷ []) → ⊥
     never why e = let z : _≡_ {A = ℕ} 0 1 = cc in omega arith
 
-    go : (x : Bool) → (ltb 1024 (size (trimmed p)) || ltb deepest (depth (trimmed p))) ≡ x → (y : Bool) → ltb room (length (write (trimmed p))) ≡ y
-        → cond x (Refused 12) (cond y (Refused 13) (Accepted (writtenOf (trimmed p)))) ≡ Accepted w
-        → Allowed (trimmed p) × (w ≡ writtenOf (trimmed p)) × (length (write (trimmed p)) ≤ room)
-    go true i y j e = absurd (never 12 e)
-    go false i true j e = absurd (never 13 e)
-    go false i false j e =
-        let n = or-neither (ltb 1024 (size (trimmed p))) (ltb deepest (depth (trimmed p))) i in (
+    go : (x : Bool) → (ltb 1024 (size (trimmed p)) || ltb deepest (depth (trimmed p))) ≡ x → (y : Bool)
+        → cond x (refusal 12) (cond y (refusal 13) (values (size (trimmed p) ∷ length (write (trimmed p)) ∷ []))) ≡ values (n ∷ bytes ∷ [])
+        → Allowed (trimmed p) × (n ≡ size (trimmed p)) × (bytes ≡ length (write (trimmed p)))
+    go true i y e = absurd (never 12 e)
+    go false i true e = absurd (never 13 e)
+    go false i false e =
+        let small = or-neither (ltb 1024 (size (trimmed p))) (ltb deepest (depth (trimmed p))) i in (
           record {
             valid = valid-trimmed p d v;
-            few = ltb-false 1024 (size (trimmed p)) (n .0);
-            deep = ltb-false deepest (depth (trimmed p)) (n .1);
+            few = ltb-false 1024 (size (trimmed p)) (small .0);
+            deep = ltb-false deepest (depth (trimmed p)) (small .1);
           },
           cc,
-          ltb-false room (length (write (trimmed p))) j,
+          cc,
         )
 
 -- the front of the buffer, as many bytes as the answer says
-abbrev pub front : List ℕ → List ℕ → Written → List ℕ
-front t out w = take (w .bytes) (bufferOf t out)
+abbrev pub front : List ℕ → List ℕ → ℕ → List ℕ
+front t out bytes = take bytes (bufferOf t out)
 
-pub record WrittenTable (t out : List ℕ) (w : Written) : Type 0 where
+pub record WrittenTable (t out : List ℕ) (n bytes : ℕ) : Type 0 where
   pub count : ℕ
   pub statement : Statement
   pub source : tableOf t ≡ holds count statement
-  pub bytes-are : front t out w ≡ write (trimmed statement)
-  pub reads : tableOf (front t out w) ≡ holds (w .nodes) (trimmed statement)
-  pub accepted-by-check : checkOf (front t out w) ≡ checked.Accepted (w .nodes)
+  pub bytes-are : front t out bytes ≡ write (trimmed statement)
+  pub reads : tableOf (front t out bytes) ≡ holds n (trimmed statement)
+  pub accepted-by-check : checkOf (front t out bytes) ≡ values (n ∷ [])
 
--- "The trimmed table, where it is not refused, is accepted by check and reads as the trimmed statement"
-pub trimmed-reads : (t out : List ℕ) (w : Written) → trimOf t (length out) ≡ Accepted w → WrittenTable t out w
-unfolding trimOf bufferOf answerOf leftOf bufferFor bufferAfter writtenOf checkOf reading.answerOf
-trimmed-reads t out w = go (tableOf t) refl
+-- the trimmed table, where it is not refused, is accepted by check and reads as the trimmed statement
+pub trimmed-reads : (t out : List ℕ) (n bytes : ℕ) → trimOf t (length out) ≡ values (n ∷ bytes ∷ []) → WrittenTable t out n bytes
+unfolding trimOf bufferOf trimIn bufferIn bufferAfter checkOf checkIn
+trimmed-reads t out n bytes = go (tableOf t) refl
   where
-    go : (T : Table) → tableOf t ≡ T → answerOf T (length out) ≡ Accepted w → WrittenTable t out w
+    go : (T : Table) → tableOf t ≡ T → trimIn T (length out) ≡ values (n ∷ bytes ∷ []) → WrittenTable t out n bytes
     go (refused why) e h = absurd (let z : _≡_ {A = ℕ} 0 1 = cc in omega arith)
-    go (holds n p) e h =
-        let a = accepted t n p e in
-        let (allowed, is, room) = allowed-trimmed p (a .valid) (a .deep) (length out) w h in
+    go (holds m p) e h =
+        let a = accepted t m p e in
+        let (allowed, count, long) = allowed-trimmed p (a .valid) (a .deep) (length out) n bytes h in
         let left : bufferOf t out ≡ write (trimmed p) ++ drop (length (write (trimmed p))) out =
-        ap (λ (T : Table). leftOf T out) e ∙ ap (λ (r : Trimmed). bufferAfter r (trimmed p) out) h in
-        let begins : front t out w ≡ write (trimmed p) =
-        ap (take (w .bytes)) left
-        ∙ take-at (write (trimmed p)) (drop (length (write (trimmed p))) out) (w .bytes) (sym (ap (λ (v : Written). v .bytes) is)) in
-        let reads : tableOf (front t out w) ≡ holds (w .nodes) (trimmed p) =
-        ap tableOf begins ∙ read-written (trimmed p) allowed ∙ ap (λ (k : ℕ). holds k (trimmed p)) (sym (ap (λ (v : Written). v .nodes) is)) in
+        ap (λ (T : Table). bufferIn T out) e ∙ ap (λ (v : Outcome). bufferAfter v (trimmed p) out) h in
+        let begins : front t out bytes ≡ write (trimmed p) =
+        ap (take bytes) left ∙ take-at (write (trimmed p)) (drop (length (write (trimmed p))) out) bytes (sym long) in
+        let reads : tableOf (front t out bytes) ≡ holds n (trimmed p) =
+        ap tableOf begins ∙ read-written (trimmed p) allowed ∙ ap (λ (k : ℕ). holds k (trimmed p)) (sym count) in
         record {
-          count = n;
+          count = m;
           statement = p;
           source = e;
           bytes-are = begins;
           reads = reads;
-          accepted-by-check = ap reading.answerOf reads;
+          accepted-by-check = ap checkIn reads;
         }
+
+-- ---- refusals
+
+for-refusals : (q : Statement) (room w : ℕ) → trimFor q room ≡ refusal w → (12 ≤ w) × (w ≤ 13)
+unfolding trimFor
+for-refusals q room w = go (ltb 1024 (size q) || ltb deepest (depth q)) (ltb room (length (write q)))
+  where
+    go : (x y : Bool) → cond x (refusal 12) (cond y (refusal 13) (values (size q ∷ length (write q) ∷ []))) ≡ refusal w → (12 ≤ w) × (w ≤ 13)
+    go true y e = let z : 12 ≡ w = cc in (omega arith, omega arith)
+    go false true e = let z : 13 ≡ w = cc in (omega arith, omega arith)
+    go false false e = absurd (let z : _≡_ {A = ℕ} 0 1 = cc in omega arith)
+
+-- "Check's refusals", 12 and 13
+pub trim-refusals : (t : List ℕ) (room w : ℕ) → trimOf t room ≡ refusal w → (1 ≤ w) × (w ≤ 13)
+unfolding trimOf trimIn
+trim-refusals t room w = go (tableOf t) refl
+  where
+    go : (T : Table) → tableOf t ≡ T → trimIn T room ≡ refusal w → (1 ≤ w) × (w ≤ 13)
+    go (refused v) e h = let same : v ≡ w = cc in let b = table-refusals t w (e ∙ ap refused same) in (b .0, omega arith)
+    go (holds n p) e h = let b = for-refusals (trimmed p) room w h in (omega arith, b .1)
+
+-- so an entry for C that returns 0 has accepted
+pub trim-accepted : (t : List ℕ) (room : ℕ) → numberOf (trimOf t room) ≡ 0 → (vs : List ℕ) × (trimOf t room ≡ values vs)
+trim-accepted t room = zero-accepted (trimOf t room) (λ w e. trim-refusals t room w e .0)

@@ -20,22 +20,20 @@ use Rattle.table.specs.Kinds.{Kind, kinds, kindOf, rowOf}
 use Rattle.table.specs.Reading.{operandOf}
 use Rattle.table.specs.inner.Places.{Placed, placed, placeKind, statementAt}
 use Rattle.table.specs.Writing.{nodes, node}
-use Rattle.table.specs.inner.Making.{inRange, nodeOf}
-use Rattle.table.proofs.Making.{in-range-same, nodeOf-same}
 use Rattle.trim.specs.declared.descent.Around.{Around}
 use Rattle.trim.specs.declared.work.Part.{Part}
 use Rattle.trim.specs.inner.Levels.{levelOut, trimmedIn, startedIf, inGuard, inElse, inTry, placesIn, wrapIf, guardedIf}
-use Rattle.trim.specs.inner.Notes.{keptOf}
-use Rattle.trim.specs.inner.Parts.{nothingAt, Leaf, ExitReady, LeafPut, Wrapped, Joined, branchIf, presentIf, ElseClosed, PresentClosed, Caught, Ready, Done}
+use Rattle.trim.specs.inner.Parts.{nothingAt, Fitting, Leaf, ExitReady, LeafPut, Wrapped, PartsJoined, branchIf, presentIf, ElseClosed, PresentClosed, Caught, Trimmable, Done}
 use Rattle.trim.proofs.Parts.{has-signal, joins-sequence}
 use Rattle.trim.proofs.Trimming.{places-same, places-low, trimmed-pause, trimmed-gotopause, trimmed-emit, trimmed-exit, trimmed-signal, trimmed-sequence, trimmed-parallel, trimmed-loop, trimmed-present, trimmed-resumed, trimmed-try}
-use Rattle.reach.specs.inner.Notes.{secondOf, endsOf}
-use Rattle.reach.proofs.Nodes.{Node, placed-node, placed-none, kind-unused}
+use Rattle.reach.specs.inner.Notes.{secondOf, endsOf, keptOf}
+use Rattle.table.proofs.Places.{Node, placed-node, placed-none}
 use Rattle.trim.proofs.Walk.{next-after}
 use Rattle.trim.proofs.Leaving.{ends-signal, ends-sequence, ends-parallel, ends-loop, ends-try, ends-branches}
-use Rattle.trim.proofs.Steps.{One, Two, note-ends, note-place, note-kept, one-signal, one-loop, one-try, two-present, two-sequence, two-parallel, trimmed-none, trimmed-leaf, trimmed-one, trimmed-two, trimmed-branches, one-ready, second-ready}
+use Rattle.trim.proofs.Steps.{One, Two, note-ends, note-place, note-kept, one-signal, one-loop, one-try, two-present, two-sequence, two-parallel, trimmed-none, trimmed-leaf, trimmed-one, trimmed-two, trimmed-branches}
+use Rattle.trim.proofs.Steps.{one-ready, second-ready, join-ready, join-room, else-room, branch-ready, present-room}
 
-module _ {R : ℕ} {xs notes : List ℕ} {at left : ℕ} {a : Around} {places work : List ℕ} {to : ℕ} (N : Ready R xs notes at left a places work to) where
+module _ {R : ℕ} {xs notes : List ℕ} {at left : ℕ} {a : Around} {places work : List ℕ} {to : ℕ} (N : Trimmable R xs notes at left a places work to) where
   abbrev operand : ℕ
   operand = operandOf (getD xs at 0)
 
@@ -51,69 +49,65 @@ module _ {R : ℕ} {xs notes : List ℕ} {at left : ℕ} {a : Around} {places wo
   unfolding placeKind kindOf kinds
   at-nothing n = rw (placed-node n) (trimmed-none R at left a places work to (at + 1) (omega arith))
 
-  pub at-unused : {k : ℕ} → Node left xs at k → 11 ≤ k → Got (nothingAt to) places work
-  unfolding placeKind
-  at-unused {k} n h =
-      let e : statementAt left xs at ≡ placed nothing (at + 1) =
-      placed-node n ∙ ap (λ (z : Kind). placeKind z operand (statementAt (left - 1) xs) (at + 1)) (kind-unused k h) in
-      rw e (trimmed-none R at left a places work to (at + 1) (omega arith))
+  pub leaf-room : {k : ℕ} → Node left xs at k → (1 ≤ to) × (to ≤ 4096)
+  leaf-room n = (let r = N .room in let s = next-after n in omega arith, N .to-in)
 
-  pub leaf-room : {k : ℕ} → Node left xs at k → (1 ≤ to) × (to ≤ 4096) × (to ≤ length work)
-  leaf-room n = (let r = N .room in let s = next-after n in omega arith, omega (arith, N .to-in, N .work-is), N .to-in)
+  -- the operand of a node is in the range of its kind
 
-  -- an operand in its range stands in the node as it is
-  abbrev SaysOperand : ℕ → Type 0
-  SaysOperand k = nodeOf k operand ≡ node k operand
+  holds : {p : Placed} → statementAt left xs at ≡ p → Valid (a .tries) (p .statement)
+  holds e = subst (λ (p : Placed). Valid (a .tries) (p .statement)) e (N .valid)
 
-  pause-node : Node left xs at 1 → SaysOperand 1
+  pub pause-fits : Node left xs at 1 → (o : ℕ) → o ≡ operand → Fitting 1 o
   unfolding placeKind kindOf kinds rowOf Valid
-  pause-node n = let v = subst (λ (p : Placed). Valid (a .tries) (p .statement)) (placed-node n) (N .valid) in nodeOf-same 1 operand (v .0) (v .1)
+  pause-fits n o e = let v = holds (placed-node n) in rw e (record { kind-in = omega arith; least = v .0; most = v .1 })
 
-  gotopause-node : Node left xs at 2 → SaysOperand 2
+  pub gotopause-fits : Node left xs at 2 → (o : ℕ) → o ≡ operand → Fitting 2 o
   unfolding placeKind kindOf kinds rowOf Valid
-  gotopause-node n = let v = subst (λ (p : Placed). Valid (a .tries) (p .statement)) (placed-node n) (N .valid) in nodeOf-same 2 operand (v .0) (v .1)
+  gotopause-fits n o e = let v = holds (placed-node n) in rw e (record { kind-in = omega arith; least = v .0; most = v .1 })
 
-  emit-node : Node left xs at 3 → SaysOperand 3
+  pub emit-fits : Node left xs at 3 → (o : ℕ) → o ≡ operand → Fitting 3 o
   unfolding placeKind kindOf kinds rowOf Valid
-  emit-node n = let v = subst (λ (p : Placed). Valid (a .tries) (p .statement)) (placed-node n) (N .valid) in nodeOf-same 3 operand zero-le v
+  emit-fits n o e = rw e (record { kind-in = omega arith; least = zero-le; most = holds (placed-node n) })
 
-  signal-node : Node left xs at 5 → SaysOperand 5
+  pub signal-fits : Node left xs at 5 → (o : ℕ) → o ≡ operand → Fitting 5 o
   unfolding placeKind kindOf kinds rowOf Valid
-  signal-node n = let v = subst (λ (p : Placed). Valid (a .tries) (p .statement)) (placed-node n) (N .valid) in nodeOf-same 5 operand zero-le (v .0)
+  signal-fits n o e = rw e (record { kind-in = omega arith; least = zero-le; most = holds (placed-node n) .0 })
 
-  pub present-signal : Node left xs at 6 → operand ≤ 31
+  pub present-signal : Node left xs at 6 → (o : ℕ) → o ≡ operand → o ≤ 31
   unfolding placeKind kindOf kinds Valid
-  present-signal n = subst (λ (p : Placed). Valid (a .tries) (p .statement)) (placed-node n) (N .valid) .0
+  present-signal n o e = rw e (holds (placed-node n) .0)
 
-  leaf : {t : Statement} (k named : ℕ) → SaysOperand k → nodes t ≡ node k operand ∷ [] → isNothing t ≡ false → depth t ≡ 1 → ((S : ℕ) → has named S ≡ names S t)
-      → Leaf t (nodeOf k operand) named
-  leaf k named e n s d h = record { nodes-are = n ∙ ap (λ (m : ℕ). m ∷ []) (sym e); some = s; deep = d; names-are = h }
+  leaf : {t : Statement} (k named : ℕ) → nodes t ≡ node k operand ∷ [] → isNothing t ≡ false → depth t ≡ 1 → ((S : ℕ) → has named S ≡ names S t)
+      → Leaf t (node k operand) named
+  leaf k named n s d h = record { nodes-are = n; some = s; deep = d; names-are = h }
 
-  pub at-pause : Node left xs at 1 → (keep : Bool) (r : Part) (work′ : List ℕ) → keep ≡ (a .started || has R operand)
-      → LeafPut (nodeOf 1 operand) 0 keep work to r work′ → Got r places work′
+  pub at-pause : Node left xs at 1 → {o : ℕ} → o ≡ operand → {keep : Bool} {r : Part} {work′ : List ℕ} → keep ≡ (a .started || has R o)
+      → LeafPut (node 1 o) 0 keep work to r work′ → Got r places work′
   unfolding placeKind kindOf kinds nodes isNothing depth names
-  at-pause n keep r work′ e P =
-      rw (placed-node n) (trimmed-leaf R at left a places work to (pause operand) (pause operand) (nodeOf 1 operand) 0 keep r work′ (n .some)
-      (trimmed-pause R places a operand ∙ ap (λ (z : Bool). cond z (pause operand) nothing) (sym e)) (leaf 1 0 (pause-node n) refl refl refl has-empty) P)
+  at-pause n e {keep} {r} {work′} k P =
+      let kept : keep ≡ (a .started || has R operand) = k ∙ ap (λ (l : ℕ). a .started || has R l) e in
+      rw (placed-node n) (trimmed-leaf R at left a places work to (pause operand) (pause operand) (node 1 operand) 0 keep r work′ (n .some)
+      (trimmed-pause R places a operand ∙ ap (λ (z : Bool). cond z (pause operand) nothing) (sym kept)) (leaf 1 0 refl refl refl has-empty) (rw e at P))
 
-  pub at-gotopause : Node left xs at 2 → (r : Part) (work′ : List ℕ) → LeafPut (nodeOf 2 operand) 0 (a .started) work to r work′ → Got r places work′
+  pub at-gotopause : Node left xs at 2 → {o : ℕ} → o ≡ operand → {r : Part} {work′ : List ℕ} → LeafPut (node 2 o) 0 (a .started) work to r work′ → Got r places work′
   unfolding placeKind kindOf kinds nodes isNothing depth names
-  at-gotopause n r work′ P =
-      rw (placed-node n) (trimmed-leaf R at left a places work to (gotopause operand) (gotopause operand) (nodeOf 2 operand) 0 (a .started) r work′ (n .some)
-      (trimmed-gotopause R places a operand) (leaf 2 0 (gotopause-node n) refl refl refl has-empty) P)
+  at-gotopause n e {r} {work′} P =
+      rw (placed-node n) (trimmed-leaf R at left a places work to (gotopause operand) (gotopause operand) (node 2 operand) 0 (a .started) r work′ (n .some)
+      (trimmed-gotopause R places a operand) (leaf 2 0 refl refl refl has-empty) (rw e at P))
 
-  pub at-emit : Node left xs at 3 → (own : ℕ) (r : Part) (work′ : List ℕ) → own ≡ only operand % 2 ^ 64
-      → LeafPut (nodeOf 3 operand) own (a .started) work to r work′ → Got r places work′
+  pub at-emit : Node left xs at 3 → {o : ℕ} → o ≡ operand → {own : ℕ} {r : Part} {work′ : List ℕ} → own ≡ only o % 2 ^ 64
+      → LeafPut (node 3 o) own (a .started) work to r work′ → Got r places work′
   unfolding placeKind kindOf kinds nodes isNothing depth names
-  at-emit n own r work′ e P =
-      rw (placed-node n) (trimmed-leaf R at left a places work to (emit operand) (emit operand) (nodeOf 3 operand) own (a .started) r work′ (n .some)
-      (trimmed-emit R places a operand) (leaf 3 own (emit-node n) refl refl refl (has-signal operand own (mod-lt (getD xs at 0) (omega arith)) e)) P)
+  at-emit n e {own} {r} {work′} k P =
+      let named = has-signal operand own (mod-lt (getD xs at 0) (omega arith)) (k ∙ ap (λ (l : ℕ). only l % 2 ^ 64) e) in
+      rw (placed-node n) (trimmed-leaf R at left a places work to (emit operand) (emit operand) (node 3 operand) own (a .started) r work′ (n .some)
+      (trimmed-emit R places a operand) (leaf 3 own refl refl refl named) (rw e at P))
 
   -- ---- an exit: what is left of it has a level from 1 to 63
 
   exit-level : Node left xs at 4 → (1 ≤ operand) × (operand ≤ a .tries)
   unfolding placeKind kindOf kinds Valid
-  exit-level n = let v = subst (λ (p : Placed). Valid (a .tries) (p .statement)) (placed-node n) (N .valid) in (v .0, v .2)
+  exit-level n = let v = holds (placed-node n) in (v .0, v .2)
 
   pub exit-ready : Node left xs at 4 → (o : ℕ) → o ≡ operand → ExitReady places a o
   exit-ready n o e =
@@ -136,18 +130,20 @@ module _ {R : ℕ} {xs notes : List ℕ} {at left : ℕ} {a : Around} {places wo
   unfolding levelOut
   exit-most = let k = N .kept-in in omega arith
 
-  pub at-exit : Node left xs at 4 → (l : ℕ) (r : Part) (work′ : List ℕ) → l ≡ levelOut places a operand
-      → LeafPut (nodeOf 4 l) 0 (a .started) work to r work′ → Got r places work′
-  unfolding placeKind kindOf kinds rowOf nodeOf nodes isNothing depth names
-  at-exit n l r work′ e P =
-      let m : ℕ = inRange (rowOf (kindOf 4)) l in
-      rw (placed-node n) (trimmed-leaf R at left a places work to (exit operand) (exit m) (nodeOf 4 l) 0 (a .started) r work′ (n .some)
-      (trimmed-exit R places a operand (exit-level n .0) ∙ same (a .started) refl)
-      (record { nodes-are = refl; some = refl; deep = refl; names-are = has-empty }) P)
-    where
-      same : (b : Bool) → a .started ≡ b → cond b (exit (levelOut places a operand)) nothing ≡ cond b (exit (inRange (rowOf (kindOf 4)) l)) nothing
-      same true h = ap exit (sym (ap (inRange (rowOf (kindOf 4))) e ∙ in-range-same (rowOf (kindOf 4)) (levelOut places a operand) (exit-caught n h) exit-most))
-      same false h = refl
+  module _ (n : Node left xs at 4) {o : ℕ} (e : o ≡ operand) (l : ℕ) (f : l ≡ levelOut places a o) where
+    out : l ≡ levelOut places a operand
+    out = f ∙ ap (levelOut places a) e
+
+    pub level-fits : a .started ≡ true → Fitting 4 l
+    unfolding kindOf kinds rowOf
+    level-fits h = rw out (record { kind-in = omega arith; least = exit-caught n h; most = exit-most })
+
+    pub at-exit : {r : Part} {work′ : List ℕ} → LeafPut (node 4 l) 0 (a .started) work to r work′ → Got r places work′
+    unfolding placeKind kindOf kinds nodes isNothing depth names
+    at-exit {r} {work′} P =
+        rw (placed-node n) (trimmed-leaf R at left a places work to (exit operand) (exit l) (node 4 l) 0 (a .started) r work′ (n .some)
+        (trimmed-exit R places a operand (exit-level n .0) ∙ ap (λ (m : ℕ). cond (a .started) (exit m) nothing) (sym out))
+        (record { nodes-are = refl; some = refl; deep = refl; names-are = has-empty }) P)
 
   -- ---- one child
 
@@ -163,37 +159,40 @@ module _ {R : ℕ} {xs notes : List ℕ} {at left : ℕ} {a : Around} {places wo
   pub the-try : Node left xs at 10 → One R xs notes at left 10 try (suc (a .tries))
   the-try n = one-try R xs notes at left (a .tries) (N .valid) (N .noted) n
 
-  pub at-signal : Node left xs at 5 → (z : Bool) (v r : Part) (places₁ work₁ work₂ : List ℕ) → Done R first (at + 1) (left - 1) a places work to v places₁ work₁
-      → z ≡ has (v .named) operand → Wrapped (nodeOf 5 operand) z work₁ to v r work₂ → Got r places₁ work₂
+  pub at-signal : Node left xs at 5 → {o : ℕ} → o ≡ operand → {z : Bool} {v r : Part} {places₁ work₁ work₂ : List ℕ}
+      → Done R first (at + 1) (left - 1) a places work to v places₁ work₁
+      → z ≡ has (v .named) o → Wrapped (node 5 o) z work₁ to v r work₂ → Got r places₁ work₂
   unfolding nodes isNothing depth names wrapIf trimSignal
-  at-signal n z v r places₁ work₁ work₂ P e W =
+  at-signal n {o} same {z} {v} {r} {places₁} {work₁} {work₂} P k W′ =
+      let e : z ≡ has (v .named) operand = k ∙ ap (has (v .named)) same in
+      let W : Wrapped (node 5 operand) z work₁ to v r work₂ = rw same at W′ in
       rw (the-signal n .is)
-      (trimmed-one R at left a places work to (n .some) (N .to-in) (signal operand) (nodeOf 5 operand) z (signal operand (first .statement)) first a places places₁ work₁ work₂ v r
+      (trimmed-one R at left a places work to (n .some) (N .to-in) (signal operand) (node 5 operand) z (signal operand (first .statement)) first a places places₁ work₁ work₂ v r
       (trimmed-signal R places a operand (first .statement)
       ∙ ap (λ (b : Bool). cond b (signal operand (trimmedIn R places a (first .statement))) (trimmedIn R places a (first .statement))) (sym (e ∙ P .made .names-are operand)))
-      (P .same) refl (record { nodes-are = λ p. ap (λ (m : ℕ). m ∷ nodes p) (sym (signal-node n)); some = λ p. refl; deep = λ p. refl; names-are = λ S p. refl }) P W)
+      (P .same) refl (record { nodes-are = λ p. refl; some = λ p. refl; deep = λ p. refl; names-are = λ S p. refl }) P W)
 
-  pub at-loop : Node left xs at 9 → (z : Bool) (a′ : Around) (v r : Part) (places₁ work₁ work₂ : List ℕ) → z ≡ endsOf (getD notes at 0) (a .started)
-      → a′ ≡ startedIf (z || a .started) a → Done R first (at + 1) (left - 1) a′ places work to v places₁ work₁ → Wrapped (nodeOf 9 0) z work₁ to v r work₂ → Got r places₁ work₂
-  unfolding nodes isNothing depth names nodeOf inRange rowOf kindOf kinds
-  at-loop n z a′ v r places₁ work₁ work₂ e f P W =
+  pub at-loop : Node left xs at 9 → {z : Bool} {a′ : Around} {v r : Part} {places₁ work₁ work₂ : List ℕ} → z ≡ endsOf (getD notes at 0) (a .started)
+      → a′ ≡ startedIf (z || a .started) a → Done R first (at + 1) (left - 1) a′ places work to v places₁ work₁ → Wrapped (node 9 0) z work₁ to v r work₂ → Got r places₁ work₂
+  unfolding nodes isNothing depth names
+  at-loop n {z} {a′} {v} {r} {places₁} {work₁} {work₂} e f P W =
       let q : z ≡ canEnd R (a .started) (first .statement) = e ∙ note-ends R xs notes at left 9 refl (the-loop n .note-is) (a .started) in
       rw (the-loop n .is)
-      (trimmed-one R at left a places work to (n .some) (N .to-in) loop (nodeOf 9 0) z (loop (first .statement)) first a′ places places₁ work₁ work₂ v r
+      (trimmed-one R at left a places work to (n .some) (N .to-in) loop (node 9 0) z (loop (first .statement)) first a′ places places₁ work₁ work₂ v r
       (trimmed-loop R places a (first .statement)
       ∙ ap (λ (b : Bool). wrapIf loop b (trimmedIn R places (startedIf (b || a .started) a) (first .statement))) (sym q)
       ∙ ap (λ (c : Around). wrapIf loop z (trimmedIn R places c (first .statement))) (sym f))
       (λ i l. P .same i (subst (λ (c : Around). i ≤ c .tries) (sym f) l)) refl
       (record { nodes-are = λ p. refl; some = λ p. refl; deep = λ p. refl; names-are = λ S p. refl }) P W)
 
-  pub at-try : Node left xs at 10 → (z : Bool) (a′ : Around) (v r : Part) (places₁ places₂ work₁ work₂ : List ℕ) → z ≡ keptOf (getD notes at 0) (a .started)
-      → a′ ≡ inTry z a → places₁ ≡ placesIn a places → Done R first (at + 1) (left - 1) a′ places₁ work to v places₂ work₁ → Wrapped (nodeOf 10 0) z work₁ to v r work₂
+  pub at-try : Node left xs at 10 → {z : Bool} {a′ : Around} {v r : Part} {places₁ places₂ work₁ work₂ : List ℕ} → z ≡ keptOf (getD notes at 0) (a .started)
+      → a′ ≡ inTry z a → places₁ ≡ placesIn a places → Done R first (at + 1) (left - 1) a′ places₁ work to v places₂ work₁ → Wrapped (node 10 0) z work₁ to v r work₂
       → Got r places₂ work₂
-  unfolding nodes isNothing depth names nodeOf inRange rowOf kindOf kinds
-  at-try n z a′ v r places₁ places₂ work₁ work₂ e f g P W =
+  unfolding nodes isNothing depth names
+  at-try n {z} {a′} {v} {r} {places₁} {places₂} {work₁} {work₂} e f g P W =
       let q : z ≡ endsAt 0 (trim R (a .started) (first .statement)) = e ∙ note-kept R xs notes at left (the-try n) (a .started) in
       rw (the-try n .is)
-      (trimmed-one R at left a places work to (n .some) (N .to-in) try (nodeOf 10 0) z (try (first .statement)) first a′ places₁ places₂ work₁ work₂ v r
+      (trimmed-one R at left a places work to (n .some) (N .to-in) try (node 10 0) z (try (first .statement)) first a′ places₁ places₂ work₁ work₂ v r
       (trimmed-try R places a (N .low) (first .statement) fit z (sym q)
       ∙ ap₂ (λ (l : List ℕ) (c : Around). wrapIf try z (trimmedIn R l c (first .statement))) (sym g) (sym f))
       (λ i l. P .same i (more i l) ∙ ap (λ (m : List ℕ). getD m i 0) g ∙ places-same places a fit i l) (ap length g ∙ length-set places (a .tries + 1) (a .kept))
@@ -209,14 +208,14 @@ module _ {R : ℕ} {xs notes : List ℕ} {at left : ℕ} {a : Around} {places wo
   left-here : {p : Placed} → statementAt left xs at ≡ p → (d : ℕ) → d < a .tries → endsAt d (trim R (a .started) (p .statement)) ≡ true → getD places (a .tries - d) 0 < a .kept
   left-here e d h x = subst (λ (q : Placed). Caught R places a (q .statement)) e (N .caught) d h x
 
-  pub signal-ready : Node left xs at 5 → Ready R xs notes (at + 1) (left - 1) a places work to
+  pub signal-ready : Node left xs at 5 → Trimmable R xs notes (at + 1) (left - 1) a places work to
   signal-ready n =
       one-ready N (n .some) (the-signal n) a places refl (omega arith) (omega arith) refl (N .low)
       (λ d h x. left-here (the-signal n .is) d h (ends-signal d R (a .started) operand (first .statement) ∙ x))
 
-  pub loop-ready : Node left xs at 9 → (z : Bool) (a′ : Around) → z ≡ endsOf (getD notes at 0) (a .started) → a′ ≡ startedIf (z || a .started) a
-      → Ready R xs notes (at + 1) (left - 1) a′ places work to
-  loop-ready n z a′ i e =
+  pub loop-ready : Node left xs at 9 → {z : Bool} {a′ : Around} → z ≡ endsOf (getD notes at 0) (a .started) → a′ ≡ startedIf (z || a .started) a
+      → Trimmable R xs notes (at + 1) (left - 1) a′ places work to
+  loop-ready n {z} {a′} i e =
       let q : canEnd R (a .started) (first .statement) ≡ z = sym (i ∙ note-ends R xs notes at left 9 refl (the-loop n .note-is) (a .started)) in
       rw e (one-ready N (n .some) (the-loop n) (startedIf (z || a .started) a) places refl (omega arith) (omega arith) refl (N .low)
       (λ d h x. left-here (the-loop n .is) d h
@@ -240,9 +239,9 @@ module _ {R : ℕ} {xs notes : List ℕ} {at left : ℕ} {a : Around} {places wo
       more true k = omega arith
       more false k = k
 
-  pub try-ready : Node left xs at 10 → (z : Bool) (a′ : Around) (places′ : List ℕ) → z ≡ keptOf (getD notes at 0) (a .started) → a′ ≡ inTry z a
-      → places′ ≡ placesIn a places → Ready R xs notes (at + 1) (left - 1) a′ places′ work to
-  try-ready n z a′ places′ i e f =
+  pub try-ready : Node left xs at 10 → {z : Bool} {a′ : Around} {places′ : List ℕ} → z ≡ keptOf (getD notes at 0) (a .started) → a′ ≡ inTry z a
+      → places′ ≡ placesIn a places → Trimmable R xs notes (at + 1) (left - 1) a′ places′ work to
+  try-ready n {z} {a′} {places′} i e f =
       let q = i ∙ note-kept R xs notes at left (the-try n) (a .started) in
       rw (e, f) (one-ready N (n .some) (the-try n) (inTry z a) (placesIn a places) (add-one (a .tries)) (omega arith) (most z)
       (length-set places (a .tries + 1) (a .kept)) (places-low places a try-fits (N .low) z) (try-caught n z q))
@@ -265,27 +264,36 @@ module _ {R : ℕ} {xs notes : List ℕ} {at left : ℕ} {a : Around} {places wo
   pub the-parallel : Node left xs at 8 → Two R xs notes at left 8 parallel (a .tries)
   the-parallel n = two-parallel R xs notes at left (a .tries) (N .valid) (N .noted) n
 
-  pub at-sequence : Node left xs at 7 → (z : Bool) (a′ : Around) (u v r : Part) (places₁ places₂ work₁ work₂ work₃ : List ℕ) → z ≡ endsOf (getD notes at 0) (a .started)
-      → a′ ≡ startedIf z a → Done R second (first .next) (left - 1) a′ places work to v places₁ work₁
-      → Done R first (at + 1) (left - 1) a places₁ work₁ (v .from) u places₂ work₂ → Joined (nodeOf 7 0) work₂ to u v r work₃ → Got r places₂ work₃
-  at-sequence n z a′ u v r places₁ places₂ work₁ work₂ work₃ e f Q P J =
+  -- the place of the second child is noted
+  pub at-second : {k : ℕ} {f : Statement → Statement → Statement} (o : Two R xs notes at left k f (a .tries)) → eqb k 10 ≡ false
+      → {m : ℕ} → m ≡ secondOf (getD notes at 0) → {a′ : Around} {v : Part} {places₁ work₁ : List ℕ}
+      → Done R (statementAt (left - 1) xs m) m (left - 1) a′ places work to v places₁ work₁
+      → Done R second (first .next) (left - 1) a′ places work to v places₁ work₁
+  at-second {k} o plain {m} e {a′} {v} {places₁} {work₁} Q =
+      subst (λ (m : ℕ). Done R (statementAt (left - 1) xs m) m (left - 1) a′ places work to v places₁ work₁) (e ∙ note-place R xs notes at left k plain (o .note-is)) Q
+
+  pub at-sequence : Node left xs at 7 → {m : ℕ} → m ≡ secondOf (getD notes at 0) → {z : Bool} {a′ : Around} {u v r : Part} {places₁ places₂ work₁ work₂ work₃ : List ℕ}
+      → z ≡ endsOf (getD notes at 0) (a .started) → a′ ≡ startedIf z a → Done R (statementAt (left - 1) xs m) m (left - 1) a′ places work to v places₁ work₁
+      → Done R first (at + 1) (left - 1) a places₁ work₁ (v .from) u places₂ work₂ → PartsJoined (node 7 0) work₂ to u v r work₃ → Got r places₂ work₃
+  at-sequence n place {z} {a′} {u} {v} {r} {places₁} {places₂} {work₁} {work₂} {work₃} e f Q P J =
       let q : z ≡ canEnd R (a .started) (first .statement) = e ∙ note-ends R xs notes at left 7 refl (the-sequence n .note-is) (a .started) in
       rw (the-sequence n .is)
-      (trimmed-two R at left a places work to (n .some) (N .to-in) sequence (nodeOf 7 0) (sequence (first .statement) (second .statement)) first second a′ places₁ places₂ work₁ work₂ work₃ u v r
+      (trimmed-two R at left a places work to (n .some) (N .to-in) sequence (node 7 0) (sequence (first .statement) (second .statement)) first second a′ places₁ places₂ work₁ work₂ work₃ u v r
       (ap (λ (c : Around). c .tries) f)
       (trimmed-sequence R places a (first .statement) (second .statement)
       ∙ ap (λ (c : Around). joinParts sequence (trimmedIn R places a (first .statement)) (trimmedIn R places c (second .statement))) (ap (λ (b : Bool). startedIf b a) (sym q) ∙ sym f))
-      joins-sequence Q P J)
+      joins-sequence (at-second (the-sequence n) refl place Q) P J)
 
-  pub at-parallel : Node left xs at 8 → (u v r : Part) (places₁ places₂ work₁ work₂ work₃ : List ℕ)
-      → Done R second (first .next) (left - 1) a places work to v places₁ work₁
-      → Done R first (at + 1) (left - 1) a places₁ work₁ (v .from) u places₂ work₂ → Joined (nodeOf 8 0) work₂ to u v r work₃ → Got r places₂ work₃
-  unfolding nodes isNothing depth names nodeOf inRange rowOf kindOf kinds
-  at-parallel n u v r places₁ places₂ work₁ work₂ work₃ Q P J =
+  pub at-parallel : Node left xs at 8 → {m : ℕ} → m ≡ secondOf (getD notes at 0) → {u v r : Part} {places₁ places₂ work₁ work₂ work₃ : List ℕ}
+      → Done R (statementAt (left - 1) xs m) m (left - 1) a places work to v places₁ work₁
+      → Done R first (at + 1) (left - 1) a places₁ work₁ (v .from) u places₂ work₂ → PartsJoined (node 8 0) work₂ to u v r work₃ → Got r places₂ work₃
+  unfolding nodes isNothing depth names
+  at-parallel n place {u} {v} {r} {places₁} {places₂} {work₁} {work₂} {work₃} Q P J =
       rw (the-parallel n .is)
-      (trimmed-two R at left a places work to (n .some) (N .to-in) parallel (nodeOf 8 0) (parallel (first .statement) (second .statement)) first second a places₁ places₂ work₁ work₂ work₃ u v r
+      (trimmed-two R at left a places work to (n .some) (N .to-in) parallel (node 8 0) (parallel (first .statement) (second .statement)) first second a places₁ places₂ work₁ work₂ work₃ u v r
       refl (trimmed-parallel R places a (first .statement) (second .statement))
-      (record { nodes-are = λ p q. refl; some = λ p q. refl; deep = λ p q. refl; names-are = λ S p q. sym (ap (λ (b : Bool). b || (names S p || names S q)) (has-empty S)) }) Q P J)
+      (record { nodes-are = λ p q. refl; some = λ p q. refl; deep = λ p q. refl; names-are = λ S p q. sym (ap (λ (b : Bool). b || (names S p || names S q)) (has-empty S)) })
+      (at-second (the-parallel n) refl place Q) P J)
 
   -- the two rules of a present as one
   present-law : (S : ℕ) (p q : Statement) (z : Bool) → z ≡ canEnd R false p
@@ -308,29 +316,45 @@ module _ {R : ℕ} {xs notes : List ℕ} {at left : ℕ} {a : Around} {places wo
       go true = refl
       go false = refl
 
-  pub at-present : Node left xs at 6 → (z : Bool) (a′ : Around) (u v e r : Part) (places₁ places₂ work₁ work₂ work₃ work₄ : List ℕ) → z ≡ endsOf (getD notes at 0) false
-      → a′ ≡ inElse z a → Done R second (first .next) (left - 1) a′ places work to v places₁ work₁ → ElseClosed (a .started) z work₁ to v e work₂
-      → Done R first (at + 1) (left - 1) a places₁ work₂ (e .from) u places₂ work₃ → PresentClosed (a .started) operand work₃ to u e r work₄ → Got r places₂ work₄
-  at-present n z a′ u v e r places₁ places₂ work₁ work₂ work₃ work₄ i f Q E P C =
+  pub at-present : Node left xs at 6 → {o : ℕ} → o ≡ operand → {m : ℕ} → m ≡ secondOf (getD notes at 0)
+      → {z : Bool} {a′ : Around} {u v e r : Part} {places₁ places₂ work₁ work₂ work₃ work₄ : List ℕ} → z ≡ endsOf (getD notes at 0) false
+      → a′ ≡ inElse z a → Done R (statementAt (left - 1) xs m) m (left - 1) a′ places work to v places₁ work₁ → ElseClosed (a .started) z work₁ to v e work₂
+      → Done R first (at + 1) (left - 1) a places₁ work₂ (e .from) u places₂ work₃ → PresentClosed (a .started) o work₃ to u e r work₄ → Got r places₂ work₄
+  at-present n same place {z} {a′} {u} {v} {e} {r} {places₁} {places₂} {work₁} {work₂} {work₃} {work₄} i f Q E P C′ =
+      let C : PresentClosed (a .started) operand work₃ to u e r work₄ = rw same at C′ in
       let q : z ≡ canEnd R false (first .statement) = i ∙ note-ends R xs notes at left 6 refl (the-present n .note-is) false in
       rw (the-present n .is)
       (trimmed-branches R at left a places work to (n .some) (N .to-in) z operand first second a′ places₁ places₂ work₁ work₂ work₃ work₄ u v e r
       (ap (λ (c : Around). c .tries) f ∙ else-tries z)
       (present-law operand (first .statement) (second .statement) z q
       ∙ ap (λ (c : Around). presentIf (a .started) operand (trimmedIn R places a (first .statement)) (branchIf (a .started) z (trimmedIn R places c (second .statement)))) (sym f))
-      Q E P C)
+      (at-second (the-present n) refl place Q) E P C)
 
-  -- the place of the second child is noted
-  pub at-second : {k : ℕ} {f : Statement → Statement → Statement} (o : Two R xs notes at left k f (a .tries)) → eqb k 10 ≡ false
-      → (m : ℕ) → m ≡ secondOf (getD notes at 0) → {a′ : Around} {v : Part} {places₁ work₁ : List ℕ}
-      → Done R (statementAt (left - 1) xs m) m (left - 1) a′ places work to v places₁ work₁
-      → Done R second (first .next) (left - 1) a′ places work to v places₁ work₁
-  at-second {k} o plain m e {a′} {v} {places₁} {work₁} Q =
-      subst (λ (m : ℕ). Done R (statementAt (left - 1) xs m) m (left - 1) a′ places work to v places₁ work₁) (e ∙ note-place R xs notes at left k plain (o .note-is)) Q
+  -- so the second child was trimmed, and the first comes
+  module _ {k : ℕ} {f : Statement → Statement → Statement} (n : Node left xs at k) (o : Two R xs notes at left k f (a .tries)) (plain : eqb k 10 ≡ false)
+      {m : ℕ} (place : m ≡ secondOf (getD notes at 0)) {a′ : Around} {v : Part} {places₁ work₁ : List ℕ}
+      (Q : Done R (statementAt (left - 1) xs m) m (left - 1) a′ places work to v places₁ work₁) where
+    pub then-ready : Caught R places a (first .statement) → a′ .tries ≡ a .tries → Trimmable R xs notes (at + 1) (left - 1) a places₁ work₁ (v .from)
+    then-ready = join-ready N (n .some) o (at-second o plain place Q)
 
-  pub sequence-ready : Node left xs at 7 → (m : ℕ) → m ≡ secondOf (getD notes at 0) → (z : Bool) (a′ : Around) → z ≡ endsOf (getD notes at 0) (a .started)
-      → a′ ≡ startedIf z a → Ready R xs notes m (left - 1) a′ places work to
-  sequence-ready n m i z a′ j e =
+    pub then-room : {places₂ work₂ : List ℕ} {u : Part} → Done R first (at + 1) (left - 1) a places₁ work₁ (v .from) u places₂ work₂
+        → (1 ≤ u .from) × (u .from ≤ 4096) × (u .depth ≤ 200) × (v .depth ≤ 200)
+    then-room = join-room N (n .some) o (at-second o plain place Q)
+
+    pub second-closes : (3 ≤ v .from) × (v .from ≤ 4096) × (v .depth ≤ 200)
+    second-closes = else-room N (n .some) o (at-second o plain place Q)
+
+    module _ {z : Bool} {work₂ : List ℕ} {e : Part} (E : ElseClosed (a .started) z work₁ to v e work₂) where
+      pub first-ready : Caught R places a (first .statement) → a′ .tries ≡ a .tries → Trimmable R xs notes (at + 1) (left - 1) a places₁ work₂ (e .from)
+      first-ready = branch-ready N (n .some) o (at-second o plain place Q) E
+
+      pub first-closes : {places₂ work₃ : List ℕ} {u : Part} → Done R first (at + 1) (left - 1) a places₁ work₂ (e .from) u places₂ work₃
+          → (S : ℕ) → S ≤ 31 → (cond (a .started) 2 1 ≤ u .from) × (u .from ≤ 4096) × (u .depth ≤ 200) × (e .depth ≤ 200) × (S ≤ 31)
+      first-closes = present-room N (n .some) o (at-second o plain place Q) E
+
+  pub sequence-ready : Node left xs at 7 → {m : ℕ} → m ≡ secondOf (getD notes at 0) → {z : Bool} {a′ : Around} → z ≡ endsOf (getD notes at 0) (a .started)
+      → a′ ≡ startedIf z a → Trimmable R xs notes m (left - 1) a′ places work to
+  sequence-ready n {m} i {z} {a′} j e =
       let q : canEnd R (a .started) (first .statement) ≡ z = sym (j ∙ note-ends R xs notes at left 7 refl (the-sequence n .note-is) (a .started)) in
       rw e (second-ready N (n .some) (the-sequence n) m (startedIf z a) (i ∙ note-place R xs notes at left 7 refl (the-sequence n .note-is)) refl (omega arith) (omega arith)
       (λ d h x. left-here (the-sequence n .is) d h (ends-sequence d R (a .started) (first .statement) (second .statement)
@@ -339,8 +363,8 @@ module _ {R : ℕ} {xs notes : List ℕ} {at left : ℕ} {a : Around} {places wo
   pub sequence-first : Node left xs at 7 → Caught R places a (first .statement)
   sequence-first n d h x = left-here (the-sequence n .is) d h (ends-sequence d R (a .started) (first .statement) (second .statement) ∙ or-left _ x)
 
-  pub parallel-ready : Node left xs at 8 → (m : ℕ) → m ≡ secondOf (getD notes at 0) → Ready R xs notes m (left - 1) a places work to
-  parallel-ready n m i =
+  pub parallel-ready : Node left xs at 8 → {m : ℕ} → m ≡ secondOf (getD notes at 0) → Trimmable R xs notes m (left - 1) a places work to
+  parallel-ready n {m} i =
       second-ready N (n .some) (the-parallel n) m a (i ∙ note-place R xs notes at left 8 refl (the-parallel n .note-is)) refl (omega arith) (omega arith)
       (λ d h x. left-here (the-parallel n .is) d h (ends-parallel d R (a .started) (first .statement) (second .statement)
       ∙ or-right (endsAt d (trim R (a .started) (first .statement))) x))
@@ -357,8 +381,8 @@ module _ {R : ℕ} {xs notes : List ℕ} {at left : ℕ} {a : Around} {places wo
       go false true = (omega arith, omega arith)
       go false false = (omega arith, omega arith)
 
-  pub else-same : (z : Bool) (a′ : Around) → a′ ≡ inElse z a → a′ .tries ≡ a .tries
-  else-same z a′ e = ap (λ (c : Around). c .tries) e ∙ else-tries z
+  pub else-same : (z : Bool) {a′ : Around} → a′ ≡ inElse z a → a′ .tries ≡ a .tries
+  else-same z e = ap (λ (c : Around). c .tries) e ∙ else-tries z
 
   else-started : (z : Bool) → inElse z a .started ≡ a .started
   unfolding inElse
@@ -368,9 +392,9 @@ module _ {R : ℕ} {xs notes : List ℕ} {at left : ℕ} {a : Around} {places wo
       go true = refl
       go false = refl
 
-  pub present-ready : Node left xs at 6 → (m : ℕ) → m ≡ secondOf (getD notes at 0) → (z : Bool) (a′ : Around) → a′ ≡ inElse z a
-      → Ready R xs notes m (left - 1) a′ places work to
-  present-ready n m i z a′ e =
+  pub present-ready : Node left xs at 6 → {m : ℕ} → m ≡ secondOf (getD notes at 0) → (z : Bool) {a′ : Around} → a′ ≡ inElse z a
+      → Trimmable R xs notes m (left - 1) a′ places work to
+  present-ready n {m} i z {a′} e =
       rw e (second-ready N (n .some) (the-present n) m (inElse z a) (i ∙ note-place R xs notes at left 6 refl (the-present n .note-is)) (else-tries z) (else-kept z .0) (else-kept z .1)
       (λ d h x.
       let k = left-here (the-present n .is) d (omega (arith, else-tries z)) (ends-branches d R (a .started) operand (first .statement) (second .statement)

@@ -8,6 +8,7 @@ pub mod Steps
 pub mod ByKind
 pub mod Leaving
 pub mod Marking
+pub mod Refused
 pub mod Root
 pub mod Answers
 pub mod Counterexamples

@@ -4,65 +4,84 @@ use mathlib.Core.Logic.{_≢_}
 use mathlib.Core.Bool.{Bool, true, false, cond, _||_}
 use mathlib.Core.List.{List, [], _∷_, _++_, append-assoc, append-nil}
 use Prim.Native.Nat.{ℕ, zero, suc, _+_, _-_, _%_, _^_, _≤_, _<_, max, zero-le}
-use native.Mathlib.Nat.{add-zero, mod-eq-of-lt}
+use native.Mathlib.Nat.{add-zero}
 use native.Mathlib.Decide.{ℕ-discrete}
 use native.Mathlib.Numerals.{sub-one}
 use native.Mathlib.Omega.{arith}
-use lib.Pow.{pow-lt}
 use lib.Bits.{bitOr}
-use lib.Dec.{eqb}
+use borrow.Author.Tests.{ltb-true, ltb-false}
+use lib.Dec.{eqb, ltb}
 use lib.ListN.{length, getD, take, drop, set, length-append, length-drop, take-append-drop}
-use lib.Seq.{take-suc, drop-at, set-at, take-append-le, take-take, length-take-le}
+use lib.Seq.{take-suc, drop-at, set-at, take-append-le, take-take, length-take-le, drop-set-lt, drop-set-add}
 use Rattle.sets.specs.Set.{has, only, _union_}
-use Rattle.sets.proofs.Booleans.{or-false, eqb-same, eqb-differ}
-use Rattle.sets.proofs.Members.{has-union, has-empty, has-only, has-only-other}
+use Rattle.sets.proofs.Booleans.{or-false, by-cond, eqb-same, eqb-differ}
+use Rattle.sets.proofs.Members.{has-union, has-empty, has-only, has-only-other, only-fits}
 use Rattle.esterel.specs.Statement.{Statement, nothing, pause, gotopause, emit, exit, signal, present, sequence, parallel, loop, try, depth}
 use Rattle.esterel.specs.Trimming.{isNothing, names, joinParts}
 use Rattle.esterel.proofs.Trimming.{is-nothing}
 use Rattle.table.specs.Kinds.{kinds, kindOf, rowOf}
 use Rattle.table.specs.Writing.{nodes, node}
-use Rattle.table.specs.inner.Making.{inRange, nodeOf}
-use Rattle.table.proofs.Making.{nodeOf-same}
+use Rattle.table.proofs.Nodes.{depth-positive}
 use Rattle.trim.specs.declared.work.Part.{Part}
 use Rattle.trim.specs.inner.Levels.{wrapIf, guardedIf}
-use Rattle.trim.specs.inner.Parts.{part, partDepth, Puts, Stands, Made, Whole, nothingAt, Joins, LeafPut, Filled, Wrapped, Joined, ElseClosed, PresentClosed}
+use Rattle.trim.specs.inner.Parts.{part, partDepth, Puts, Stands, PartStands, WholeStands, heldWith, nothingAt, Fitting, Joins, LeafPut, Filled, Wrapped, PartsJoined, ElseClosed, PresentClosed}
 use Rattle.trim.proofs.Dropped.{join-first, join-both}
 
 -- ---- lists written from their end
 
 pub puts-none : (work : List ℕ) (to : ℕ) → Puts [] work to to work
-puts-none work to = record { put = sym (take-append-drop to work); from-is = add-zero to }
+puts-none work to = record { put = λ all n e. sym e ∙ ap (drop 3072) (sym (take-append-drop to all)); from-is = add-zero to }
 
-pub puts-more : (l work work′ : List ℕ) (to from x : ℕ) → 1 ≤ from → to ≤ length work → Puts l work to from work′ → Puts (x ∷ l) work to (from - 1) (set work′ (from - 1) x)
+-- a node in front, in a list of all places
+set-front : (all l : List ℕ) (to n x : ℕ) → n < length all → set (take (suc n) all ++ (l ++ drop to all)) n x ≡ take n all ++ (x ∷ l ++ drop to all)
+set-front all l to n x h =
+    rw (take-suc all n 0 h, append-assoc (take n all) (getD all n 0 ∷ []) (l ++ drop to all))
+    (set-at (take n all) (getD all n 0) (l ++ drop to all) x n (length-take-le n all (omega arith)))
+
+-- and in those from k on
+set-held : (k : ℕ) (all : List ℕ) (i x : ℕ) → cond (ltb i k) (drop k all) (set (drop k all) (i - k) x) ≡ drop k (set all i x)
+set-held k all i x =
+    by-cond (λ (l : List ℕ). l ≡ drop k (set all i x)) (ltb i k) (drop k all) (set (drop k all) (i - k) x) (λ h. sym (drop-set-lt k all i x (ltb-true i k h)))
+    (λ h. let e : k + (i - k) ≡ i = omega (arith, ltb-false i k h) in sym (drop-set-add k all (i - k) x) ∙ ap (λ (j : ℕ). drop k (set all j x)) e)
+
+pub puts-more : (l work work′ : List ℕ) (to from x : ℕ) → 1 ≤ from → to ≤ 4096 → Puts l work to from work′ → Puts (x ∷ l) work to (from - 1) (heldWith work′ (from - 1) x)
 puts-more l work work′ to zero x h w p = absurd (omega arith)
 puts-more l work work′ to (suc n) x h w p =
     rw sub-one
     (record {
-      put =
-          rw (p .put, take-suc work n 0 (omega (arith, p .from-is)), append-assoc (take n work) (getD work n 0 ∷ []) (l ++ drop to work))
-          (set-at (take n work) (getD work n 0) (l ++ drop to work) x n (length-take-le n work (omega (arith, p .from-is))));
+      put = λ all k e.
+          ap (λ (v : List ℕ). heldWith v n x) (p .put all k e) ∙ set-held 3072 (take (suc n) all ++ (l ++ drop to all)) n x
+          ∙ ap (drop 3072) (set-front all l to n x (omega (arith, p .from-is)));
       from-is = omega (arith, p .from-is);
     })
 
-pub puts-both : (l m work between work′ : List ℕ) (to mid from : ℕ) → to ≤ length work → Puts m work to mid between → Puts l between mid from work′
+-- a list written in front of another, in a list of all places
+module _ (l m all : List ℕ) (to mid from : ℕ) (w : to ≤ length all) (q : mid + length m ≡ to) (p : from + length l ≡ mid) where
+  abbrev then : List ℕ
+  then = take mid all ++ (m ++ drop to all)
+
+  front : length (take mid all) ≡ mid
+  front = length-take-le mid all (omega arith)
+
+  then-long : length then ≡ length all
+  then-long = simp (length-append, length-drop, front) (omega arith)
+
+  then-front : take from then ++ (l ++ drop mid then) ≡ take from all ++ ((l ++ m) ++ drop to all)
+  then-front =
+      let e : take from then ≡ take from all =
+      take-append-le from (take mid all) (m ++ drop to all) (rw front (omega arith)) ∙ take-take from mid all (omega arith) in
+      rw (e, drop-at (take mid all) (m ++ drop to all) mid front, append-assoc l m (drop to all))
+
+pub puts-both : (l m work between work′ : List ℕ) (to mid from : ℕ) → to ≤ 4096 → Puts m work to mid between → Puts l between mid from work′
     → Puts (l ++ m) work to from work′
 puts-both l m work between work′ to mid from w q p =
-    let e : take from between ≡ take from work =
-    ap (λ (x : List ℕ). take from x) (q .put)
-    ∙ take-append-le from (take mid work) (m ++ drop to work) (rw (length-take-le mid work (omega (arith, q .from-is))) (omega (arith, p .from-is)))
-    ∙ take-take from mid work (omega (arith, p .from-is)) in
-    let f : drop mid between ≡ m ++ drop to work =
-    ap (λ (x : List ℕ). drop mid x) (q .put) ∙ drop-at (take mid work) (m ++ drop to work) mid (length-take-le mid work (omega (arith, q .from-is))) in
     record {
-      put = p .put ∙ rw (e, f, append-assoc l m (drop to work));
+      put = λ all k e.
+          let h : to ≤ length all = omega arith in
+          p .put (then l m all to mid from h (q .from-is) (p .from-is)) (then-long l m all to mid from h (q .from-is) (p .from-is) ∙ k) (sym (q .put all k e))
+          ∙ ap (drop 3072) (then-front l m all to mid from h (q .from-is) (p .from-is));
       from-is = rw (length-append l m) (omega (arith, p .from-is, q .from-is));
     }
-
--- the length of the work area stays
-pub puts-length : (l work work′ : List ℕ) (to from : ℕ) → to ≤ length work → Puts l work to from work′ → length work′ ≡ length work
-puts-length l work work′ to from w p =
-    ap (λ (x : List ℕ). length x) (p .put)
-    ∙ simp (length-append, length-drop, length-take-le from work (omega (arith, p .from-is))) (omega (arith, p .from-is))
 
 -- ---- parts and whole statements
 
@@ -106,33 +125,67 @@ unfolding partDepth
 depth-whole t e = rw e
 
 module _ (t : Statement) (work : List ℕ) (to : ℕ) (r : Part) (work′ : List ℕ) where
-  whole-made : isNothing t ≡ false → Whole t work to r work′ → Made t work to r work′
+  whole-made : isNothing t ≡ false → WholeStands t work to r work′ → PartStands t work to r work′
   whole-made e W = subst₂ (λ (l : List ℕ) (d : ℕ). Stands l d t work to r work′) (sym (part-whole t e)) (sym (depth-whole t e)) W
 
-  made-whole : isNothing t ≡ false → Made t work to r work′ → Whole t work to r work′
+  made-whole : isNothing t ≡ false → PartStands t work to r work′ → WholeStands t work to r work′
   made-whole e M = subst₂ (λ (l : List ℕ) (d : ℕ). Stands l d t work to r work′) (part-whole t e) (depth-whole t e) M
 
-  made-none : Made t work to r work′ → r .from ≡ to → t ≡ nothing
+  made-none : PartStands t work to r work′ → r .from ≡ to → t ≡ nothing
   made-none M e = part-none t (omega (arith, M .puts .from-is))
 
-  made-some : Made t work to r work′ → r .from ≢ to → isNothing t ≡ false
+  made-some : PartStands t work to r work′ → r .from ≢ to → isNothing t ≡ false
   made-some M n = part-some t (λ z. n (omega (arith, M .puts .from-is)))
 
-pub made-nothing : (work : List ℕ) (to : ℕ) → Made nothing work to (nothingAt to) work
+pub made-nothing : (work : List ℕ) (to : ℕ) → PartStands nothing work to (nothingAt to) work
 unfolding part partDepth isNothing names
 made-nothing work to = record { puts = puts-none work to; depth-is = refl; names-are = has-empty }
+
+-- ---- kinds whose operand is 0
+
+bare : (k : ℕ) → k < 16 → rowOf (kindOf k) .least ≡ 0 → Fitting k 0
+bare k h e = record { kind-in = h; least = omega arith; most = zero-le }
+
+pub nothing-fits : Fitting 0 0
+unfolding rowOf kindOf kinds
+nothing-fits = bare 0 (omega arith) refl
+
+pub sequence-fits : Fitting 7 0
+unfolding rowOf kindOf kinds
+sequence-fits = bare 7 (omega arith) refl
+
+pub parallel-fits : Fitting 8 0
+unfolding rowOf kindOf kinds
+parallel-fits = bare 8 (omega arith) refl
+
+pub loop-fits : Fitting 9 0
+unfolding rowOf kindOf kinds
+loop-fits = bare 9 (omega arith) refl
+
+pub try-fits : Fitting 10 0
+unfolding rowOf kindOf kinds
+try-fits = bare 10 (omega arith) refl
+
+-- and those of the two steps at a present
+pub exit-fits : Fitting 4 1
+unfolding rowOf kindOf kinds
+exit-fits = record { kind-in = omega arith; least = omega arith; most = omega arith }
+
+pub present-fits : (S : ℕ) → S ≤ 31 → Fitting 6 S
+unfolding rowOf kindOf kinds
+present-fits S h = record { kind-in = omega arith; least = zero-le; most = h }
 
 -- ---- a statement of one node
 
 -- what `put` does
 abbrev pub PutAt : List ℕ → ℕ → ℕ → ℕ → List ℕ → Type 0
-PutAt work from x f work′ = (f ≡ from - 1) × (work′ ≡ set work (from - 1) x)
+PutAt work from x f work′ = (f ≡ from - 1) × (work′ ≡ heldWith work (from - 1) x)
 
-puts-put : (l before work work′ : List ℕ) (to from x f : ℕ) → 1 ≤ from → to ≤ length before → Puts l before to from work → PutAt work from x f work′
+puts-put : (l before work work′ : List ℕ) (to from x f : ℕ) → 1 ≤ from → to ≤ 4096 → Puts l before to from work → PutAt work from x f work′
     → Puts (x ∷ l) before to f work′
 puts-put l before work work′ to from x f h w p e = subst₂ (λ (n : ℕ) (m : List ℕ). Puts (x ∷ l) before to n m) (sym (e .0)) (sym (e .1)) (puts-more l before work to from x h w p)
 
-pub leaf-put : (x named : ℕ) (keep : Bool) (work : List ℕ) (to f : ℕ) (work′ : List ℕ) → keep ≡ true → 1 ≤ to → to ≤ length work → PutAt work to x f work′
+pub leaf-put : (x named : ℕ) (keep : Bool) (work : List ℕ) (to f : ℕ) (work′ : List ℕ) → keep ≡ true → 1 ≤ to → to ≤ 4096 → PutAt work to x f work′
     → LeafPut x named keep work to (record { from = f; depth = 1; named = named }) work′
 leaf-put x named keep work to f work′ k h w e =
     record {
@@ -150,16 +203,16 @@ leaf-none x named keep work to k = record { made = λ t L. rw k (made-nothing wo
 
 -- ---- nothing filled in
 
-pub filled-none : (work : List ℕ) (to : ℕ) (p : Part) (f : ℕ) (work′ : List ℕ) → 1 ≤ p .from → p .from ≡ to → PutAt work (p .from) (nodeOf 0 0) f work′
+pub filled-none : (work : List ℕ) (to : ℕ) (p : Part) (f : ℕ) (work′ : List ℕ) → 1 ≤ p .from → p .from ≡ to → PutAt work (p .from) (node 0 0) f work′
     → Filled work to p (record { from = f; depth = 1; named = p .named }) work′
-unfolding nodes depth part isNothing nodeOf inRange rowOf kindOf kinds
+unfolding nodes depth part isNothing
 filled-none work to p f work′ h z e =
     record {
       made = λ t before w M.
           let n : t ≡ nothing = made-none t before to p work M z in
-          let N : Made nothing before to p work = subst (λ (u : Statement). Made u before to p work) n M in
-          subst (λ (u : Statement). Whole u before to (record { from = f; depth = 1; named = p .named }) work′) (sym n)
-          (record { puts = puts-put [] before work work′ to (p .from) (nodeOf 0 0) f h w (N .puts) e; depth-is = refl; names-are = N .names-are });
+          let N : PartStands nothing before to p work = subst (λ (u : Statement). PartStands u before to p work) n M in
+          subst (λ (u : Statement). WholeStands u before to (record { from = f; depth = 1; named = p .named }) work′) (sym n)
+          (record { puts = puts-put [] before work work′ to (p .from) (node 0 0) f h w (N .puts) e; depth-is = refl; names-are = N .names-are });
       near = omega (arith, e .0);
       below = omega (arith, e .0);
       shallow = omega arith;
@@ -194,12 +247,8 @@ wrapped-put x z work to p v between f work′ k h F e =
 -- ---- one signal
 
 pub has-signal : (S own : ℕ) → S < 64 → own ≡ only S % 2 ^ 64 → (n : ℕ) → has own n ≡ eqb n S
-unfolding only
-has-signal S own h e n = ap (λ (m : ℕ). has m n) (e ∙ fit) ∙ go (ℕ-discrete n S)
+has-signal S own h e n = ap (λ (m : ℕ). has m n) (e ∙ only-fits 64 S h) ∙ go (ℕ-discrete n S)
   where
-    fit : 2 ^ S % 2 ^ 64 ≡ 2 ^ S
-    fit = mod-eq-of-lt (pow-lt h)
-
     go : Dec (n ≡ S) → has (only S) n ≡ eqb n S
     go (yes z) = rw z (has-only S ∙ sym (eqb-same S))
     go (no z) = has-only-other S n (λ y. z (sym y)) ∙ sym (eqb-differ n S z)
@@ -221,15 +270,15 @@ abbrev joined : Part → Part → ℕ → ℕ → Part
 joined p q f d = record { from = f; depth = d; named = bitOr (p .named) (q .named) }
 
 module _ (x : ℕ) (work : List ℕ) (to : ℕ) (p q : Part) where
-  pub joined-second : p .from ≡ q .from → Joined x work to p q (joined p q (p .from) (max (p .depth) (q .depth))) work
+  pub joined-second : p .from ≡ q .from → PartsJoined x work to p q (joined p q (p .from) (max (p .depth) (q .depth))) work
   unfolding part partDepth isNothing names
   joined-second z =
       record {
         made = λ f s t before between J w Q P.
             let n : s ≡ nothing = made-none s between (q .from) p work P z in
-            let N : Made nothing between (q .from) p work = subst (λ (u : Statement). Made u between (q .from) p work) n P in
+            let N : PartStands nothing between (q .from) p work = subst (λ (u : Statement). PartStands u between (q .from) p work) n P in
             let r : Part = joined p q (p .from) (max (p .depth) (q .depth)) in
-            subst (λ (u : Statement). Made u before to r work) (sym (join-none f t) ∙ ap (λ (u : Statement). joinParts f u t) (sym n))
+            subst (λ (u : Statement). PartStands u before to r work) (sym (join-none f t) ∙ ap (λ (u : Statement). joinParts f u t) (sym n))
             (record {
               puts = puts-both [] (part t) before between work to (q .from) (p .from) w (Q .puts) (N .puts);
               depth-is = omega (arith, N .depth-is, Q .depth-is);
@@ -239,15 +288,15 @@ module _ (x : ℕ) (work : List ℕ) (to : ℕ) (p q : Part) where
         shallow = omega arith;
       }
 
-  pub joined-first : q .from ≡ to → Joined x work to p q (joined p q (p .from) (max (p .depth) (q .depth))) work
+  pub joined-first : q .from ≡ to → PartsJoined x work to p q (joined p q (p .from) (max (p .depth) (q .depth))) work
   unfolding part partDepth isNothing names
   joined-first z =
       record {
         made = λ f s t before between J w Q P.
             let n : t ≡ nothing = made-none t before to q between Q z in
-            let N : Made nothing before to q between = subst (λ (u : Statement). Made u before to q between) n Q in
+            let N : PartStands nothing before to q between = subst (λ (u : Statement). PartStands u before to q between) n Q in
             let r : Part = joined p q (p .from) (max (p .depth) (q .depth)) in
-            subst (λ (u : Statement). Made u before to r work)
+            subst (λ (u : Statement). PartStands u before to r work)
             (sym (join-first f s t (ap isNothing n)))
             (record {
               puts = subst (λ (l : List ℕ). Puts l before to (p .from) work) (append-nil (part s)) (puts-both (part s) [] before between work to (q .from) (p .from) w (N .puts) (P .puts));
@@ -259,7 +308,7 @@ module _ (x : ℕ) (work : List ℕ) (to : ℕ) (p q : Part) where
       }
 
   pub joined-put : (f : ℕ) (work′ : List ℕ) → 1 ≤ p .from → p .from ≢ q .from → q .from ≢ to → PutAt work (p .from) x f work′
-      → Joined x work to p q (joined p q f (max (p .depth) (q .depth) + 1)) work′
+      → PartsJoined x work to p q (joined p q f (max (p .depth) (q .depth) + 1)) work′
   joined-put f work′ h m n e =
       record {
         made = λ g s t before between J w Q P.
@@ -268,7 +317,7 @@ module _ (x : ℕ) (work : List ℕ) (to : ℕ) (p q : Part) where
             let U = made-whole s between (q .from) p work a P in
             let T = made-whole t before to q between b Q in
             let r : Part = joined p q f (max (p .depth) (q .depth) + 1) in
-            subst (λ (u : Statement). Made u before to r work′) (sym (join-both g s t a b))
+            subst (λ (u : Statement). PartStands u before to r work′) (sym (join-both g s t a b))
             (whole-made (g s t) before to r work′ (J .some s t) (record {
               puts = subst (λ (l : List ℕ). Puts l before to f work′) (sym (J .nodes-are s t))
                   (puts-put (nodes s ++ nodes t) before work work′ to (p .from) x f h w (puts-both (nodes s) (nodes t) before between work to (q .from) (p .from) w (T .puts) (U .puts)) e);
@@ -285,23 +334,9 @@ module _ (x : ℕ) (work : List ℕ) (to : ℕ) (p q : Part) where
 abbrev guarded : Statement → Statement
 guarded q = try (sequence (exit 1) q)
 
-depth-some : (t : Statement) → 1 ≤ depth t
-unfolding depth
-depth-some nothing = omega arith
-depth-some (pause l) = omega arith
-depth-some (gotopause l) = omega arith
-depth-some (emit S) = omega arith
-depth-some (exit e) = omega arith
-depth-some (signal S p) = omega arith
-depth-some (present S p q) = omega arith
-depth-some (sequence p q) = omega arith
-depth-some (parallel p q) = omega arith
-depth-some (loop p) = omega arith
-depth-some (try p) = omega arith
-
 guarded-depth : (t : Statement) → depth (guarded t) ≡ depth t + 2
 unfolding depth
-guarded-depth t = let h = depth-some t in omega arith
+guarded-depth t = let h = depth-positive t in omega arith
 
 guard-none : (z : Bool) → guardedIf z nothing ≡ nothing
 unfolding guardedIf isNothing
@@ -329,19 +364,19 @@ module _ (started z : Bool) (work : List ℕ) (to : ℕ) (q : Part) where
       rw e (record {
         made = λ t before w M.
             let n : t ≡ nothing = made-none t before to q work M h in
-            subst (λ (u : Statement). Made u before to q work) (n ∙ sym (guard-none z) ∙ ap (guardedIf z) (sym n)) M;
+            subst (λ (u : Statement). PartStands u before to q work) (n ∙ sym (guard-none z) ∙ ap (guardedIf z) (sym n)) M;
         near = omega arith;
         shallow = omega arith;
       })
 
   pub else-free : started ≡ false → z ≡ false → ElseClosed started z work to q q work
   else-free e h =
-      rw (e, h) (record { made = λ t before w M. subst (λ (u : Statement). Made u before to q work) (sym (guard-not t)) M; near = omega arith; shallow = omega arith })
+      rw (e, h) (record { made = λ t before w M. subst (λ (u : Statement). PartStands u before to q work) (sym (guard-not t)) M; near = omega arith; shallow = omega arith })
 
   pub else-guarded : started ≡ false → z ≡ true → q .from ≢ to → 3 ≤ q .from → (f₁ f₂ f₃ : ℕ) (work₁ work₂ work₃ : List ℕ)
-      → PutAt work (q .from) (nodeOf 4 1) f₁ work₁ → PutAt work₁ f₁ (nodeOf 7 0) f₂ work₂ → PutAt work₂ f₂ (nodeOf 10 0) f₃ work₃
+      → PutAt work (q .from) (node 4 1) f₁ work₁ → PutAt work₁ f₁ (node 7 0) f₂ work₂ → PutAt work₂ f₂ (node 10 0) f₃ work₃
       → ElseClosed started z work to q (record { from = f₃; depth = q .depth + 2; named = q .named }) work₃
-  unfolding nodes names isNothing nodeOf inRange rowOf kindOf kinds
+  unfolding nodes names isNothing
   else-guarded e k n h f₁ f₂ f₃ work₁ work₂ work₃ A B C =
       rw (e, k) (record {
         made = λ t before w M.
@@ -351,7 +386,7 @@ module _ (started z : Bool) (work : List ℕ) (to : ℕ) (q : Part) where
             let one = puts-put (nodes t) before work work₁ to (q .from) 257 f₁ (omega arith) w (U .puts) A in
             let two = puts-put (257 ∷ nodes t) before work₁ work₂ to f₁ 448 f₂ (omega (arith, A .0)) w one B in
             let three = puts-put (448 ∷ (257 ∷ nodes t)) before work₂ work₃ to f₂ 640 f₃ (omega (arith, A .0, B .0)) w two C in
-            subst (λ (u : Statement). Made u before to r work₃) (sym (guard-some t some))
+            subst (λ (u : Statement). PartStands u before to r work₃) (sym (guard-some t some))
             (whole-made (guarded t) before to r work₃ refl (record { puts = three; depth-is = omega (arith, U .depth-is, guarded-depth t); names-are = M .names-are }));
         near = omega (arith, A .0, B .0, C .0);
         shallow = omega arith;
@@ -359,18 +394,18 @@ module _ (started z : Bool) (work : List ℕ) (to : ℕ) (q : Part) where
 
 -- ---- a present
 
-pub joins-sequence : Joins sequence (nodeOf 7 0) 0
-unfolding nodes isNothing depth names nodeOf inRange rowOf kindOf kinds
+pub joins-sequence : Joins sequence (node 7 0) 0
+unfolding nodes isNothing depth names
 joins-sequence = record { nodes-are = λ p q. refl; some = λ p q. refl; deep = λ p q. refl; names-are = λ S p q. sym (ap (λ (z : Bool). z || (names S p || names S q)) (has-empty S)) }
 
-or-swap : (a b : Bool) → (a || b) ≡ (b || a)
-or-swap true true = refl
-or-swap true false = refl
-or-swap false true = refl
-or-swap false false = refl
+or-turned : (a b : Bool) → (a || b) ≡ (b || a)
+or-turned true true = refl
+or-turned true false = refl
+or-turned false true = refl
+or-turned false false = refl
 
 module _ (started : Bool) (S : ℕ) (work : List ℕ) (to : ℕ) (p q : Part) where
-  pub present-joined : started ≡ false → (r : Part) (work′ : List ℕ) → Joined (nodeOf 7 0) work to p q r work′ → PresentClosed started S work to p q r work′
+  pub present-joined : started ≡ false → (r : Part) (work′ : List ℕ) → PartsJoined (node 7 0) work to p q r work′ → PresentClosed started S work to p q r work′
   present-joined e r work′ J =
       rw e (record {
         made = λ s t before between w Q P. J .made sequence s t before between joins-sequence w Q P;
@@ -378,26 +413,22 @@ module _ (started : Bool) (S : ℕ) (work : List ℕ) (to : ℕ) (p q : Part) wh
         shallow = omega (arith, J .shallow);
       })
 
-  present-node : S ≤ 31 → nodeOf 6 S ≡ node 6 S
-  unfolding rowOf kindOf kinds
-  present-node h = nodeOf-same 6 S zero-le h
-
-  pub present-whole : started ≡ true → S ≤ 31 → (v : Part) (work₁ : List ℕ) (f own : ℕ) (work′ : List ℕ) → 1 ≤ v .from → ((n : ℕ) → has own n ≡ eqb n S)
-      → Filled work (q .from) p v work₁ → PutAt work₁ (v .from) (nodeOf 6 S) f work′
+  pub present-whole : started ≡ true → (v : Part) (work₁ : List ℕ) (f own : ℕ) (work′ : List ℕ) → 1 ≤ v .from → ((n : ℕ) → has own n ≡ eqb n S)
+      → Filled work (q .from) p v work₁ → PutAt work₁ (v .from) (node 6 S) f work′
       → PresentClosed started S work to p q (record { from = f; depth = max (v .depth) (q .depth) + 1; named = bitOr (bitOr (v .named) (q .named)) own }) work′
   unfolding nodes isNothing depth names
-  present-whole e small v work₁ f own work′ h o F A =
+  present-whole e v work₁ f own work′ h o F A =
       rw e (record {
         made = λ s t before between w Q P.
-            let n : length between ≡ length before = puts-length (nodes t) before between to (q .from) w (Q .puts) in
             let U = F .made s between (omega (arith, Q .puts .from-is)) P in
             let r : Part = record { from = f; depth = max (v .depth) (q .depth) + 1; named = bitOr (bitOr (v .named) (q .named)) own } in
             whole-made (present S s t) before to r work′ refl (record {
-              puts = subst (λ (x : ℕ). Puts (x ∷ nodes s ++ nodes t) before to f work′) (present-node small) (puts-put (nodes s ++ nodes t) before work₁ work′ to (v .from) (nodeOf 6 S) f h w (puts-both (nodes s) (nodes t) before between work₁ to (q .from) (v .from) w (Q .puts) (U .puts)) A);
+              puts = puts-put (nodes s ++ nodes t) before work₁ work′ to (v .from) (node 6 S) f h w
+                  (puts-both (nodes s) (nodes t) before between work₁ to (q .from) (v .from) w (Q .puts) (U .puts)) A;
               depth-is = omega (arith, U .depth-is, Q .depth-is);
               names-are = λ m.
                   has-or (bitOr (v .named) (q .named)) own m ∙ ap₂ _||_ (names-two (v .named) (q .named) m s t (U .names-are m) (Q .names-are m)) (o m)
-                  ∙ or-swap (names m s || names m t) (eqb m S);
+                  ∙ or-turned (names m s || names m t) (eqb m S);
             });
         near = omega (arith, A .0, F .near);
         shallow = omega (arith, F .shallow);

@@ -2,38 +2,41 @@
 -- the nodes that stand at the end of the work area.
 use mathlib.Core.Path.{_≡_, sym, ap, ap₂, _∙_, subst}
 use mathlib.Core.Bool.{Bool, true, false, cond, _||_}
-use mathlib.Core.List.{List, [], _++_, append-nil}
-use Prim.Native.Nat.{ℕ, _-_, _≤_, _<_, zero-le}
+use mathlib.Core.List.{List, [], _∷_, _++_, append-nil}
+use Prim.Native.Nat.{ℕ, _+_, _-_, _≤_, _<_, zero-le}
 use native.Mathlib.Omega.{arith}
 use borrow.Author.Tests.{lt-ltb, le-ltb}
 use lib.Dec.{ltb}
-use lib.ListN.{length, getD, take, drop, length-drop}
-use lib.Seq.{drop-at, drop-length, length-take-le, take-all}
+use lib.ListN.{length, getD, take, drop, replicate, length-replicate, length-append, length-drop}
+use lib.Seq.{drop-at, drop-drop, drop-length, length-take-le, take-all}
+use Rattle.sets.specs.Set.{has}
 use Rattle.sets.proofs.Booleans.{or-left, or-right}
-use Rattle.esterel.specs.Statement.{Statement, size, depth}
+use Rattle.esterel.specs.Statement.{Statement, size, depth, Valid}
 use Rattle.esterel.specs.Reachability.{reach}
-use Rattle.esterel.specs.Trimming.{isNothing, trimmed}
+use Rattle.esterel.specs.Trimming.{isNothing, endsAt, trim, trimmed}
 use Rattle.esterel.proofs.Validity.{valid-trimmed, size-trimmed}
+use Rattle.table.specs.Outcomes.{refusal, values}
 use Rattle.table.specs.Reading.{lengthOf, deepest}
-use Rattle.table.specs.inner.Places.{statementAt}
+use Rattle.table.specs.inner.Places.{statementAt, statementOf, Known, Loaded}
 use Rattle.table.specs.Writing.{nodes, writeNodes, write}
 use Rattle.table.specs.inner.Making.{Writable}
 use Rattle.table.proofs.Nodes.{length-nodes}
 use Rattle.table.proofs.Fields.{length-writeNodes}
 use Rattle.reach.specs.declared.Settled.{Settled}
-use Rattle.reach.specs.inner.Rounds as rounds
-use Rattle.reach.specs.inner.Rounds.{statementOf, Rests}
+use Rattle.reach.specs.declared.Analysed.{Analysed}
+use Rattle.reach.specs.declared.Analysed.the-variants.{Rest}
+use Rattle.reach.specs.inner.Rounds.{Settleable, Rests}
 use Rattle.trim.specs.declared.descent.Around.{Around}
 use Rattle.trim.specs.declared.marks.Exits.{Exits}
 use Rattle.trim.specs.declared.work.Part.{Part}
 use Rattle.trim.specs.declared.Trimmed.the-variants.{Refused, Accepted}
 use Rattle.trim.specs.inner.Levels.{levelOut, trimmedIn}
 use Rattle.trim.specs.inner.Marking.{Marks}
-use Rattle.trim.specs.inner.Parts.{part, Made, Filled, Ready, Done}
-use Rattle.trim.specs.Answers.{writtenOf, answerFor, bufferAfter, bufferFor}
-use Rattle.trim.specs.inner.Root.{Tree, Ends, Fields, Finished}
+use Rattle.trim.specs.inner.Parts.{part, PartStands, Filled, Trimmable, Done}
+use Rattle.trim.specs.Answers.{trimmedOutcome, trimFor, bufferAfter}
+use Rattle.trim.specs.inner.Root.{Lent, Ends, Fields, Finished}
 use Rattle.trim.proofs.Levels.{map-closed}
-use Rattle.trim.proofs.Parts.{puts-length}
+use Rattle.trim.proofs.Refused.{no-exit, no-name, no-level}
 
 part-size : (t : Statement) → length (part t) ≤ size t
 unfolding part
@@ -46,118 +49,163 @@ part-size t = go (isNothing t)
 abbrev root : Around
 root = record { started = true; tries = 0; kept = 0 }
 
+-- a list of all places, of which those that are held come last
+all-places : (n m : ℕ) (work : List ℕ) → length work ≡ m → (all : List ℕ) × (length all ≡ n + m) × (drop n all ≡ work)
+all-places n m work e = (replicate n 0 ++ work, length-append (replicate n 0) work ∙ ap₂ _+_ (length-replicate n 0) e, drop-at (replicate n 0) work n (length-replicate n 0))
+
 -- ---- trimming the root
 
-module _ (xs : List ℕ) (T : Tree xs) where
-  pub settle-ready : (notes endings : List ℕ) → length notes ≡ 1024 → length endings ≡ 1024 → rounds.Ready xs notes endings
-  settle-ready notes endings n e = record { sound = record { all = T .all; valid = T .valid }; notes-are = n; endings-are = e }
+pub root-settles : {xs notes endings places work : List ℕ} → Loaded xs → Lent notes endings places work → Settleable xs notes endings
+root-settles L l = record { loaded = L; notes-are = l .notes-are; endings-are = l .endings-are }
+
+-- the rounds over the nodes have come to rest: there are notes, and room for marking and trimming
+pub record AtRest (xs places work notes endings : List ℕ) (found : Settled) : Type 0 where
+  pub loaded : Loaded xs
+  pub places-are : length places ≡ 64
+  pub outermost : getD places 0 0 ≡ 0
+  pub work-is : length work ≡ 1024
+  pub answer : Analysed
+  pub rests : Rests xs answer notes endings
+  pub is : answer ≡ Rest found
+
+module _ {xs places work notes endings : List ℕ} {found : Settled} (A : AtRest xs places work notes endings found) where
+  abbrev R : ℕ
+  R = found .set
+
+  abbrev result : Statement
+  result = trimmed (statementOf xs)
+
+  reached : R ≡ reach (statementOf xs) .set
+  reached = ap (λ (f : Settled). f .set) (same (sym (A .is) ∙ A .rests .reaches .rest)) ∙ A .rests .reaches .set
+    where
+      same : {f g : Settled} → Rest f ≡ Rest g → f ≡ g
+      same e = cc
+
+  valid : Valid 0 result
+  valid = valid-trimmed (statementOf xs) (A .loaded .shallow) (A .loaded .valid)
 
   -- no exit leaves the root, so its levels are those of the trimmed statement
-  root-is : (R : ℕ) (places : List ℕ) → R ≡ reach (statementOf xs) .set → trimmedIn R places root (statementOf xs) ≡ trimmed (statementOf xs)
+  root-is : trimmedIn R places root (statementOf xs) ≡ result
   unfolding trimmedIn trimmed
-  root-is R places e =
-      ap (λ (r : ℕ). trimmedIn r places root (statementOf xs)) e
-      ∙ map-closed (levelOut places root) 0 (trimmed (statementOf xs)) (valid-trimmed (statementOf xs) (T .shallow) (T .valid))
+  root-is = ap (λ (r : ℕ). trimmedIn r places root (statementOf xs)) reached ∙ map-closed (levelOut places root) 0 result valid
 
-  module _ (notes₁ endings notes₂ places work : List ℕ) (wide : length places ≡ 64) (outermost : getD places 0 0 ≡ 0) (long : length work ≡ 4096) (found : Settled)
-      (r : Rests xs found notes₁ endings) where
-    pub root-ready : (e : Exits) → Marks (found .set) xs endings 60 0 notes₁ e notes₂ → Ready (found .set) xs notes₂ 0 60 root places work 4096
-    root-ready e M =
+  pub root-markable : (length xs ≡ 1024) × (length notes ≡ 1024) × Known xs
+  root-markable = (A .loaded .all, A .rests .size, A .loaded .known)
+
+  module _ {e : Exits} {notes′ : List ℕ} (M : Marks R xs endings 60 0 notes e notes′) where
+    -- marking met no node of no kind
+    pub root-marked : ltb 1 (e .started) ≡ false
+    unfolding trimmed
+    root-marked =
+        no-level (e .started) (λ d.
+        M .marked (A .rests .noted) .leaving .started d ∙ ap (λ (r : ℕ). endsAt d (trim r true (statementOf xs))) reached ∙ no-exit 0 d result valid (omega arith))
+
+    pub root-trimmable : Trimmable R xs notes′ 0 60 root places work 4096
+    root-trimmable =
         record {
-          valid = T .valid;
-          noted = M .marked (r .noted) .noted;
-          all = T .all;
-          room = let f = T .few in omega arith;
-          to-in = omega (arith, long);
-          work-is = long;
+          valid = A .loaded .valid;
+          noted = M .marked (A .rests .noted) .noted;
+          all = A .loaded .all;
+          known = A .loaded .known;
+          room = omega (arith, A .loaded .next-is, A .loaded .few);
+          to-in = omega arith;
           tries-in = omega arith;
           kept-in = omega arith;
-          wide = wide;
-          low = λ i l. let e : i ≡ 0 = omega arith in rw e (omega (arith, outermost));
-          caught = λ d l h. absurd (omega arith);
+          wide = A .places-are;
+          low = λ i h. let e : i ≡ 0 = omega arith in rw e (omega (arith, A .outermost));
+          caught = λ d h x. absurd (omega arith);
         }
 
-    module _ (p : Part) (places′ work₁ : List ℕ) (D : Done (found .set) (statementAt 60 xs 0) 0 60 root places work 4096 p places′ work₁) where
-      abbrev result : Statement
-      result = trimmed (statementOf xs)
+  module _ {p : Part} {places′ work₁ : List ℕ} (D : Done R (statementAt 60 xs 0) 0 60 root places work 4096 p places′ work₁) where
+    made : PartStands result work 4096 p work₁
+    made = subst (λ (t : Statement). PartStands t work 4096 p work₁) root-is (D .made)
 
-      made : Made result work 4096 p work₁
-      made = subst (λ (t : Statement). Made t work 4096 p work₁) (root-is (found .set) places (r .reaches .set)) (D .made)
+    -- nor did trimming
+    pub root-named : has (p .named) 63 ≡ false
+    root-named = made .names-are 63 ∙ no-name 0 63 result valid (omega arith)
 
-      pub root-room : (1 ≤ p .from) × (p .from ≤ 4096)
-      root-room =
-          let e = made .puts .from-is in
-          let s = size-trimmed (statementOf xs) in
-          let f = T .small in
-          (omega (arith, part-size result), omega arith)
+    pub root-room : (1 ≤ p .from) × (p .from ≤ 4096)
+    root-room =
+        let e = made .puts .from-is in
+        let s = size-trimmed (statementOf xs) in
+        let f = A .loaded .few in
+        (omega (arith, part-size result), omega arith)
 
-      pub root-ends : (v : Part) (work₂ : List ℕ) → Filled work₁ 4096 p v work₂ → Ends result v work₂
-      root-ends v work₂ F =
-          let W = F .made result work (omega (arith, long)) made in
-          let e = W .puts .from-is in
-          let l : length (take (v .from) work) ≡ v .from = length-take-le (v .from) work (omega (arith, long)) in
-          record {
-            stands =
-                ap (drop (v .from)) (W .puts .put) ∙ drop-at (take (v .from) work) (nodes result ++ drop 4096 work) (v .from) l
-                ∙ ap (λ (m : List ℕ). nodes result ++ m) (ap (λ (n : ℕ). drop n work) (sym long) ∙ drop-length work) ∙ append-nil (nodes result);
-            within = let n = puts-length (nodes result) work work₂ 4096 (v .from) (omega (arith, long)) (W .puts) in omega (arith, long);
-            deep = W .depth-is;
-          }
+    pub root-ends : {v : Part} {work₂ : List ℕ} → Filled work₁ 4096 p v work₂ → Ends result v work₂
+    root-ends {v} {work₂} F =
+        let (all, long, is) = all-places 3072 1024 work (A .work-is) in
+        let W = F .made result work (omega arith) made in
+        let e = W .puts .from-is in
+        let t : length (take (v .from) all) ≡ v .from = length-take-le (v .from) all (omega arith) in
+        let none : drop 4096 all ≡ [] = ap (λ (n : ℕ). drop n all) (sym long) ∙ drop-length all in
+        record {
+          count = omega (arith, length-nodes result);
+          stands = λ h.
+              ap (drop (v .from - 3072)) (W .puts .put all long is) ∙ drop-drop (v .from - 3072) 3072 (take (v .from) all ++ (nodes result ++ drop 4096 all))
+              ∙ ap (λ (n : ℕ). drop n (take (v .from) all ++ (nodes result ++ drop 4096 all))) (let m : 3072 + (v .from - 3072) ≡ v .from = omega arith in m)
+              ∙ drop-at (take (v .from) all) (nodes result ++ drop 4096 all) (v .from) t ∙ ap (λ (m : List ℕ). nodes result ++ m) none ∙ append-nil (nodes result);
+          deep = W .depth-is;
+        }
 
 -- ---- the end of trimming
 
 module _ (p : Part) (work out : List ℕ) where
   module _ (t : Statement) (E : Ends t p work) where
-    counted : size t ≡ length work - p .from
-    counted = sym (length-nodes t) ∙ ap length (sym (E .stands)) ∙ length-drop (p .from) work
+    counted : size t ≡ 4096 - p .from
+    counted = let e = E .count in omega arith
 
-    long : length (write t) ≡ lengthOf (length work - p .from)
+    long : length (write t) ≡ lengthOf (4096 - p .from)
     unfolding write
     long = length-writeNodes (nodes t) ∙ ap lengthOf (length-nodes t ∙ counted)
 
-    refused-12 : (ltb 1024 (size t) || ltb deepest (depth t)) ≡ true → (Refused 12 ≡ answerFor t (length out)) × (out ≡ bufferFor t out)
-    unfolding answerFor bufferFor bufferAfter
+    refused-12 : (ltb 1024 (size t) || ltb deepest (depth t)) ≡ true → (refusal 12 ≡ trimFor t (length out)) × (out ≡ bufferAfter (trimFor t (length out)) t out)
+    unfolding trimFor bufferAfter
     refused-12 h = (rw h, rw h)
 
-  pub finish-many : 1024 < length work - p .from → Finished work p out (Refused 12) out
-  unfolding Finished
+  pub finish-many : 1024 < 4096 - p .from → Finished work p out (Refused 12) out
+  unfolding Finished trimmedOutcome
   finish-many h t E = refused-12 t E (or-left (ltb deepest (depth t)) (lt-ltb 1024 (size t) (omega (arith, counted t E))))
 
   pub finish-deep : 60 < p .depth → Finished work p out (Refused 12) out
-  unfolding Finished
+  unfolding Finished trimmedOutcome
   finish-deep h t E = refused-12 t E (or-right (ltb 1024 (size t)) (lt-ltb deepest (depth t) (omega (arith, E .deep))))
 
-  module _ (few : length work - p .from ≤ 1024) (shallow : p .depth ≤ 60) where
+  module _ (few : 4096 - p .from ≤ 1024) (shallow : p .depth ≤ 60) where
     allowed : (t : Statement) → Ends t p work → (ltb 1024 (size t) || ltb deepest (depth t)) ≡ false
     allowed t E = rw (le-ltb 1024 (size t) (omega (arith, counted t E)), le-ltb deepest (depth t) (omega (arith, E .deep)))
 
-    pub finish-short : (b : ℕ) → b ≡ lengthOf (length work - p .from) → length out < b → Finished work p out (Refused 13) out
-    unfolding Finished answerFor bufferFor bufferAfter
+    pub finish-short : (b : ℕ) → b ≡ lengthOf (4096 - p .from) → length out < b → Finished work p out (Refused 13) out
+    unfolding Finished trimmedOutcome trimFor bufferAfter
     finish-short b e h t E =
         let l : ltb (length out) (length (write t)) ≡ true = lt-ltb (length out) (length (write t)) (omega (arith, long t E)) in
         (rw (allowed t E, l), rw (allowed t E, l))
 
-    module _ (b : ℕ) (e : b ≡ lengthOf (length work - p .from)) (room : b ≤ length out) where
-      slice-is : take (length work - p .from) (drop (p .from) work) ≡ drop (p .from) work
-      slice-is = take-all (length work - p .from) (drop (p .from) work) (omega (arith, length-drop (p .from) work))
+    module _ (b : ℕ) (e : b ≡ lengthOf (4096 - p .from)) (room : b ≤ length out) where
+      abbrev first : ℕ
+      first = p .from - 3072
 
-      pub finish-writable : Fields p work → Writable (take (length work - p .from) (drop (p .from) work)) (length out)
+      held : 3072 ≤ p .from
+      held = omega arith
+
+      abbrev slice : List ℕ
+      slice = take (length work - first) (drop first work)
+
+      slice-is : slice ≡ drop first work
+      slice-is = take-all (length work - first) (drop first work) (omega (arith, length-drop first work))
+
+      pub finish-writable : Fields p work → Writable slice (length out)
       finish-writable F =
-          rw slice-is (record {
-            few = omega (arith, length-drop (p .from) work);
-            fields = F .fields;
-            fits = rw (length-drop (p .from) work) (omega arith);
-          })
+          let count : length (drop first work) ≡ 4096 - p .from = length-drop first work ∙ (omega (arith, F .long, F .within)) in
+          rw slice-is (record { few = omega arith; fields = F .fields held; fits = rw count (omega arith) })
 
-      pub finish-written : (n : ℕ) (out′ : List ℕ)
-          → (n ≡ length (writeNodes (take (length work - p .from) (drop (p .from) work)))) × (out′ ≡ writeNodes (take (length work - p .from) (drop (p .from) work)) ++ drop n out)
-          → Finished work p out (Accepted (record { nodes = length work - p .from; bytes = b })) out′
-      unfolding Finished answerFor bufferFor bufferAfter writtenOf write
+      pub finish-written : (n : ℕ) (out′ : List ℕ) → (n ≡ length (writeNodes slice)) × (out′ ≡ writeNodes slice ++ drop n out)
+          → Finished work p out (Accepted (record { nodes = 4096 - p .from; bytes = b })) out′
+      unfolding Finished trimmedOutcome trimFor bufferAfter write
       finish-written n out′ w t E =
           let l : ltb (length out) (length (write t)) ≡ false = le-ltb (length out) (length (write t)) (omega (arith, long t E)) in
-          let is : take (length work - p .from) (drop (p .from) work) ≡ nodes t = slice-is ∙ E .stands in
+          let is : slice ≡ nodes t = slice-is ∙ E .stands held in
           let bytes : b ≡ length (write t) = e ∙ sym (long t E) in
           let put = subst (λ (m : List ℕ). (n ≡ length (writeNodes m)) × (out′ ≡ writeNodes m ++ drop n out)) is w in (
-            rw (allowed t E, l) (ap₂ (λ (i j : ℕ). Accepted (record { nodes = i; bytes = j })) (sym (counted t E)) bytes),
+            rw (allowed t E, l) (ap₂ (λ (i j : ℕ). values (i ∷ j ∷ [])) (sym (counted t E)) bytes),
             rw (allowed t E, l) (put .1 ∙ ap (λ (k : ℕ). writeNodes (nodes t) ++ drop k out) (put .0)),
           )

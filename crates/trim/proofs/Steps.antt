@@ -17,12 +17,12 @@ use Rattle.table.specs.Writing.{nodes}
 use Rattle.trim.specs.declared.descent.Around.{Around}
 use Rattle.trim.specs.declared.work.Part.{Part}
 use Rattle.trim.specs.inner.Levels.{trimmedIn, wrapIf}
-use Rattle.reach.specs.inner.Notes.{Noted, noteOf, secondOf, endsOf}
-use Rattle.reach.proofs.Nodes.{Node, placed-node, next-forward}
+use Rattle.reach.specs.inner.Notes.{Noted, noteOf, secondOf, endsOf, keptOf}
+use Rattle.table.proofs.Places.{Node, placed-node, next-forward}
 use Rattle.reach.proofs.Notes.{noted-node, second-note, ends-note}
-use Rattle.trim.specs.inner.Notes.{trimNote, TrimNote, keptOf}
-use Rattle.trim.specs.inner.Parts.{part, Made, nothingAt, Leaf, Wraps, Joins, LeafPut, Wrapped, Joined, Branch, branchIf, presentIf, ElseClosed, PresentClosed, Caught, Ready, Done}
-use Rattle.trim.proofs.Parts.{puts-length, made-nothing}
+use Rattle.trim.specs.inner.Notes.{trimNote, TrimNote}
+use Rattle.trim.specs.inner.Parts.{part, PartStands, nothingAt, Leaf, Wraps, Joins, LeafPut, Wrapped, PartsJoined, Branch, branchIf, presentIf, ElseClosed, PresentClosed, Caught, Trimmable, Done}
+use Rattle.trim.proofs.Parts.{made-nothing}
 use Rattle.trim.proofs.Trimming.{Low, trimmed-places, trimmed-nothing}
 use Rattle.trim.proofs.Notes.{try-kept}
 
@@ -114,7 +114,7 @@ module _ (R at left : ℕ) (a : Around) (places work : List ℕ) (to : ℕ) wher
   pub trimmed-none : (n : ℕ) → at ≤ n → Done R (placed nothing n) at left a places work to (nothingAt to) places work
   trimmed-none n h =
       record {
-        made = subst (λ (u : Statement). Made u work to (nothingAt to) work) (sym (trimmed-nothing R places a)) (made-nothing work to);
+        made = subst (λ (u : Statement). PartStands u work to (nothingAt to) work) (sym (trimmed-nothing R places a)) (made-nothing work to);
         room = omega arith;
         shallow = omega arith;
         same = λ i l. refl;
@@ -128,14 +128,14 @@ module _ (R at left : ℕ) (a : Around) (places work : List ℕ) (to : ℕ) wher
       let near : to ≤ r .from + 1 = P .near in
       let shallow : r .depth ≤ 1 = P .shallow in
       record {
-        made = subst (λ (v : Statement). Made v work to r work′) (sym is) (P .made u L);
+        made = subst (λ (v : Statement). PartStands v work to r work′) (sym is) (P .made u L);
         room = omega arith;
         shallow = omega arith;
         same = λ i l. refl;
         long = refl;
       }
 
-  module _ (some : left ≢ 0) (w : to ≤ length work) where
+  module _ (some : left ≢ 0) (w : to ≤ 4096) where
     pub trimmed-one : (g : Statement → Statement) (x : ℕ) (z : Bool) (s : Statement) (p : Placed) (a′ : Around) (places₁ places₂ work₁ work₂ : List ℕ) (v r : Part)
         → trimmedIn R places a s ≡ wrapIf g z (trimmedIn R places₁ a′ (p .statement)) → Same (a .tries) places places₂ → length places₁ ≡ length places
         → Wraps g x → Done R p (at + 1) (left - 1) a′ places₁ work to v places₂ work₁ → Wrapped x z work₁ to v r work₂
@@ -146,7 +146,7 @@ module _ (R at left : ℕ) (a : Around) (places work : List ℕ) (to : ℕ) wher
         let deep : v .depth ≤ 3 * (left - 1) = P .shallow in
         let deeper : r .depth ≤ v .depth + 2 = W .shallow in
         record {
-          made = subst (λ (u : Statement). Made u work to r work₂) (sym is) (W .made g (trimmedIn R places₁ a′ (p .statement)) work G w (P .made));
+          made = subst (λ (u : Statement). PartStands u work to r work₂) (sym is) (W .made g (trimmedIn R places₁ a′ (p .statement)) work G w (P .made));
           room = omega arith;
           shallow = omega arith;
           same = same;
@@ -156,7 +156,7 @@ module _ (R at left : ℕ) (a : Around) (places work : List ℕ) (to : ℕ) wher
     pub trimmed-two : (g : Statement → Statement → Statement) (x : ℕ) (s : Statement) (p q : Placed) (a′ : Around) (places₁ places₂ work₁ work₂ work₃ : List ℕ) (u v r : Part)
         → a′ .tries ≡ a .tries → trimmedIn R places a s ≡ joinParts g (trimmedIn R places a (p .statement)) (trimmedIn R places a′ (q .statement)) → Joins g x 0
         → Done R q (p .next) (left - 1) a′ places work to v places₁ work₁ → Done R p (at + 1) (left - 1) a places₁ work₁ (v .from) u places₂ work₂
-        → Joined x work₂ to u v r work₃ → Done R (placed s (q .next)) at left a places work to r places₂ work₃
+        → PartsJoined x work₂ to u v r work₃ → Done R (placed s (q .next)) at left a places work to r places₂ work₃
     trimmed-two g x s p q a′ places₁ places₂ work₁ work₂ work₃ u v r tries is G Q P J =
         let same : Same (a .tries) places places₁ = λ i l. Q .same i (omega arith) in
         let room : v .from + 4 * (at + 1) ≤ u .from + 4 * p .next = P .room in
@@ -166,9 +166,9 @@ module _ (R at left : ℕ) (a : Around) (places work : List ℕ) (to : ℕ) wher
         let deep′ : v .depth ≤ 3 * (left - 1) = Q .shallow in
         let deeper : r .depth ≤ max (u .depth) (v .depth) + 1 = J .shallow in
         record {
-          made = subst (λ (t : Statement). Made t work to r work₃) (sym is)
+          made = subst (λ (t : Statement). PartStands t work to r work₃) (sym is)
               (J .made g (trimmedIn R places a (p .statement)) (trimmedIn R places a′ (q .statement)) work work₁ G w (Q .made)
-              (subst (λ (t : Statement). Made t work₁ (v .from) u work₂) (trimmed-places R places places₁ a (p .statement) same) (P .made)));
+              (subst (λ (t : Statement). PartStands t work₁ (v .from) u work₂) (trimmed-places R places places₁ a (p .statement) same) (P .made)));
           room = omega arith;
           shallow = omega arith;
           same = λ i l. P .same i l ∙ same i l;
@@ -193,10 +193,10 @@ module _ (R at left : ℕ) (a : Around) (places work : List ℕ) (to : ℕ) wher
         let deep″ : e .depth ≤ v .depth + 2 = E .shallow in
         let deeper : r .depth ≤ max (u .depth + 1) (e .depth) + 1 = C .shallow in
         record {
-          made = subst (λ (t : Statement). Made t work to r work₄) (sym is)
+          made = subst (λ (t : Statement). PartStands t work to r work₄) (sym is)
               (C .made (trimmedIn R places a (p .statement)) (branchIf (a .started) z (trimmedIn R places a′ (q .statement))) work work₂ w
               (E .made (trimmedIn R places a′ (q .statement)) work w (Q .made))
-              (subst (λ (t : Statement). Made t work₂ (e .from) u work₃) (trimmed-places R places places₁ a (p .statement) same) (P .made)));
+              (subst (λ (t : Statement). PartStands t work₂ (e .from) u work₃) (trimmed-places R places places₁ a (p .statement) same) (P .made)));
           room = omega arith;
           shallow = omega arith;
           same = λ i l. P .same i l ∙ same i l;
@@ -209,19 +209,19 @@ module _ (R at left : ℕ) (a : Around) (places work : List ℕ) (to : ℕ) wher
 
 -- ---- what the calls ask
 
-module _ {R : ℕ} {xs notes : List ℕ} {at left : ℕ} {a : Around} {places work : List ℕ} {to : ℕ} (N : Ready R xs notes at left a places work to) (some : left ≢ 0) where
+module _ {R : ℕ} {xs notes : List ℕ} {at left : ℕ} {a : Around} {places work : List ℕ} {to : ℕ} (N : Trimmable R xs notes at left a places work to) (some : left ≢ 0) where
   pub one-ready : {k : ℕ} {f : Statement → Statement} {inside : ℕ} → One R xs notes at left k f inside → (a′ : Around) (places′ : List ℕ) → a′ .tries ≡ inside
       → a′ .tries ≤ a .tries + 1 → a′ .kept ≤ a .kept + 1 → length places′ ≡ length places → Low places′ a′
-      → Caught R places′ a′ (statementAt (left - 1) xs (at + 1) .statement) → Ready R xs notes (at + 1) (left - 1) a′ places′ work to
+      → Caught R places′ a′ (statementAt (left - 1) xs (at + 1) .statement) → Trimmable R xs notes (at + 1) (left - 1) a′ places′ work to
   one-ready o a′ places′ e t l wide low caught =
       let next : statementAt left xs at .next ≡ statementAt (left - 1) xs (at + 1) .next = ap (λ (p : Placed). p .next) (o .is) in
       record {
         valid = subst (λ (n : ℕ). Valid n (statementAt (left - 1) xs (at + 1) .statement)) (sym e) (o .valid);
         noted = o .noted;
         all = N .all;
+        known = N .known;
         room = let r = N .room in omega arith;
         to-in = N .to-in;
-        work-is = N .work-is;
         tries-in = let r = N .tries-in in omega arith;
         kept-in = let r = N .kept-in in omega arith;
         wide = wide ∙ N .wide;
@@ -240,15 +240,15 @@ module _ {R : ℕ} {xs notes : List ℕ} {at left : ℕ} {a : Around} {places wo
     next-is = ap (λ (p : Placed). p .next) (o .is)
 
     pub second-ready : (at′ : ℕ) (a′ : Around) → at′ ≡ mid → a′ .tries ≡ a .tries → a .kept ≤ a′ .kept → a′ .kept ≤ a .kept + 1
-        → Caught R places a′ (statementAt (left - 1) xs mid .statement) → Ready R xs notes at′ (left - 1) a′ places work to
+        → Caught R places a′ (statementAt (left - 1) xs mid .statement) → Trimmable R xs notes at′ (left - 1) a′ places work to
     second-ready at′ a′ e t least l caught =
         rw e (record {
           valid = subst (λ (n : ℕ). Valid n (statementAt (left - 1) xs mid .statement)) (sym t) (o .valid-second);
           noted = o .noted-second;
           all = N .all;
+          known = N .known;
           room = let r = N .room in omega (arith, forward, next-is);
           to-in = N .to-in;
-          work-is = N .work-is;
           tries-in = let r = N .tries-in in omega arith;
           kept-in = let r = N .kept-in in omega arith;
           wide = N .wide;
@@ -257,16 +257,16 @@ module _ {R : ℕ} {xs notes : List ℕ} {at left : ℕ} {a : Around} {places wo
         })
 
     pub first-ready : Caught R places a (statementAt (left - 1) xs (at + 1) .statement) → {a′ : Around} {v : Part} {places₁ work₁ : List ℕ} → Done R (statementAt (left - 1) xs mid) mid (left - 1) a′ places work to v places₁ work₁
-        → a′ .tries ≡ a .tries → (to′ : ℕ) (work′ : List ℕ) → v .from ≤ to′ + 4 → to′ ≤ length work′ → length work′ ≡ length work
-        → Ready R xs notes (at + 1) (left - 1) a places₁ work′ to′
-    first-ready caught Q t to′ work′ h g l =
+        → a′ .tries ≡ a .tries → (to′ : ℕ) (work′ : List ℕ) → v .from ≤ to′ + 4 → to′ ≤ 4096
+        → Trimmable R xs notes (at + 1) (left - 1) a places₁ work′ to′
+    first-ready caught Q t to′ work′ h g =
         record {
           valid = o .valid;
           noted = o .noted;
           all = N .all;
+          known = N .known;
           room = let r = N .room in let s = Q .room in omega (arith, next-is);
           to-in = g;
-          work-is = l ∙ N .work-is;
           tries-in = let r = N .tries-in in omega arith;
           kept-in = let r = N .kept-in in omega arith;
           wide = Q .long ∙ N .wide;
@@ -275,13 +275,8 @@ module _ {R : ℕ} {xs notes : List ℕ} {at left : ℕ} {a : Around} {places wo
         }
 
   -- ---- the room and the depth that the last steps ask
-  ends-in : {t : Statement} {work₁ work₂ : List ℕ} {to₁ : ℕ} {v : Part} → length work₁ ≡ length work → to₁ ≤ to → Made t work₁ to₁ v work₂
-      → (v .from ≤ to₁) × (length work₂ ≡ length work)
-  ends-in {t} {work₁} {work₂} {to₁} {v} l h M =
-      let r = N .to-in in
-      let e = M .puts .from-is in
-      let n = puts-length (part t) work₁ work₂ to₁ (v .from) (omega arith) (M .puts) in
-      (omega arith, omega arith)
+  ends-in : {t : Statement} {work₁ work₂ : List ℕ} {to₁ : ℕ} {v : Part} → PartStands t work₁ to₁ v work₂ → v .from ≤ to₁
+  ends-in M = let e = M .puts .from-is in omega arith
 
   pub one-room : {k : ℕ} {f : Statement → Statement} {inside : ℕ} → One R xs notes at left k f inside → {a′ : Around} {places₁ places₂ work₁ : List ℕ} {v : Part}
       → Done R (statementAt (left - 1) xs (at + 1)) (at + 1) (left - 1) a′ places₁ work to v places₂ work₁
@@ -293,28 +288,28 @@ module _ {R : ℕ} {xs notes : List ℕ} {at left : ℕ} {a : Around} {places wo
       let i = N .to-in in
       let t = N .tries-in in
       let d = P .shallow in
-      let e = ends-in refl (omega arith) (P .made) in
-      (omega arith, omega (arith, e, N .work-is), omega arith)
+      let e = ends-in (P .made) in
+      (omega arith, omega arith, omega arith)
 
   module _ {k : ℕ} {f : Statement → Statement → Statement} (o : Two R xs notes at left k f (a .tries)) {a′ : Around} {places₁ work₁ : List ℕ} {v : Part}
       (Q : Done R (statementAt (left - 1) xs (mid o)) (mid o) (left - 1) a′ places work to v places₁ work₁) where
     second-room : 4 * mid o ≤ v .from + 4 * at
     second-room = let r = N .room in let s = Q .room in omega (arith, next-is o)
 
-    second-ends : (v .from ≤ to) × (length work₁ ≡ length work)
-    second-ends = ends-in refl (omega arith) (Q .made)
+    second-ends : v .from ≤ to
+    second-ends = ends-in (Q .made)
 
     pub else-room : (3 ≤ v .from) × (v .from ≤ 4096) × (v .depth ≤ 200)
     else-room =
         let i = N .to-in in
         let t = N .tries-in in
         let d = Q .shallow in
-        (omega (arith, second-room, forward o), omega (arith, second-ends, N .work-is), omega arith)
+        (omega (arith, second-room, forward o), omega (arith, second-ends), omega arith)
 
-    pub join-ready : Caught R places a (statementAt (left - 1) xs (at + 1) .statement) → a′ .tries ≡ a .tries → Ready R xs notes (at + 1) (left - 1) a places₁ work₁ (v .from)
+    pub join-ready : Caught R places a (statementAt (left - 1) xs (at + 1) .statement) → a′ .tries ≡ a .tries → Trimmable R xs notes (at + 1) (left - 1) a places₁ work₁ (v .from)
     join-ready caught t =
         let i = N .to-in in
-        first-ready o caught Q t (v .from) work₁ (omega arith) (omega (arith, second-ends)) (second-ends .1)
+        first-ready o caught Q t (v .from) work₁ (omega arith) (omega (arith, second-ends))
 
     pub join-room : {places₂ work₂ : List ℕ} {u : Part} → Done R (statementAt (left - 1) xs (at + 1)) (at + 1) (left - 1) a places₁ work₁ (v .from) u places₂ work₂
         → (1 ≤ u .from) × (u .from ≤ 4096) × (u .depth ≤ 200) × (v .depth ≤ 200)
@@ -323,15 +318,15 @@ module _ {R : ℕ} {xs notes : List ℕ} {at left : ℕ} {a : Around} {places wo
         let t = N .tries-in in
         let d = P .shallow in
         let s = P .room in
-        let e = ends-in (second-ends .1) (second-ends .0) (P .made) in
-        (omega (arith, second-room), omega (arith, e, second-ends, N .work-is), omega arith, else-room .2)
+        let e = ends-in (P .made) in
+        (omega (arith, second-room), omega (arith, second-ends), omega arith, else-room .2)
 
     module _ {z : Bool} {work₂ : List ℕ} {e : Part} (E : ElseClosed (a .started) z work₁ to v e work₂) where
-      branch-ends : (b : Bool) (t : Statement) → Branch b t work to e work₂ → (e .from ≤ to) × (length work₂ ≡ length work)
-      branch-ends true t W = (let h = W .puts .from-is in omega arith, puts-length (nodes t) work work₂ to (e .from) (N .to-in) (W .puts))
-      branch-ends false t M = ends-in refl (omega arith) M
+      branch-ends : (b : Bool) (t : Statement) → Branch b t work to e work₂ → e .from ≤ to
+      branch-ends true t W = let h = W .puts .from-is in omega arith
+      branch-ends false t M = ends-in M
 
-      else-ends : (e .from ≤ to) × (length work₂ ≡ length work)
+      else-ends : e .from ≤ to
       else-ends =
           branch-ends (a .started) (branchIf (a .started) z (trimmedIn R places a′ (statementAt (left - 1) xs (mid o) .statement)))
           (E .made (trimmedIn R places a′ (statementAt (left - 1) xs (mid o) .statement)) work (N .to-in) (Q .made))
@@ -340,11 +335,11 @@ module _ {R : ℕ} {xs notes : List ℕ} {at left : ℕ} {a : Around} {places wo
       three true = omega arith
       three false = omega arith
 
-      pub branch-ready : Caught R places a (statementAt (left - 1) xs (at + 1) .statement) → a′ .tries ≡ a .tries → Ready R xs notes (at + 1) (left - 1) a places₁ work₂ (e .from)
+      pub branch-ready : Caught R places a (statementAt (left - 1) xs (at + 1) .statement) → a′ .tries ≡ a .tries → Trimmable R xs notes (at + 1) (left - 1) a places₁ work₂ (e .from)
       branch-ready caught t =
           let i = N .to-in in
           let n = E .near in
-          first-ready o caught Q t (e .from) work₂ (omega (arith, three (a .started))) (omega (arith, else-ends)) (else-ends .1)
+          first-ready o caught Q t (e .from) work₂ (omega (arith, three (a .started))) (omega (arith, else-ends))
 
       four : (b : Bool) → cond b 1 3 + cond b 2 1 ≤ 4
       four true = omega arith
@@ -360,5 +355,5 @@ module _ {R : ℕ} {xs notes : List ℕ} {at left : ℕ} {a : Around} {places wo
           let n = E .near in
           let m = E .shallow in
           let q = Q .shallow in
-          let x = ends-in (else-ends .1) (else-ends .0) (P .made) in
-          (omega (arith, second-room, four (a .started)), omega (arith, x, else-ends, N .work-is), omega arith, omega arith, h)
+          let x = ends-in (P .made) in
+          (omega (arith, second-room, four (a .started)), omega (arith, else-ends), omega arith, omega arith, h)

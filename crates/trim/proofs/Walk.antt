@@ -3,7 +3,7 @@ use mathlib.Core.Path.{_≡_, sym, ap, _∙_}
 use mathlib.Core.Logic.{_≢_, _⊎_, inl, inr}
 use mathlib.Core.Bool.{true, false}
 use mathlib.Core.List.{List}
-use Prim.Native.Nat.{ℕ, suc, _+_, _-_, _≤_, zero-le}
+use Prim.Native.Nat.{ℕ, _+_, _-_, _≤_}
 use native.Mathlib.Omega.{arith}
 use borrow.Author.Tests.{leb-true, leb-false}
 use lib.Dec.{leb}
@@ -11,15 +11,15 @@ use lib.ListN.{length, getD}
 use Rattle.table.specs.Kinds.{kindOf, rowOf}
 use Rattle.table.specs.Reading.{kindOfNode, operandOf}
 use Rattle.table.specs.inner.Places.{Placed, statementAt}
-use Rattle.reach.proofs.Nodes.{Node, placed-node, place-next, follow-forward, next-forward}
+use Rattle.table.proofs.Places.{Node, placed-node, place-next, follow-forward, next-forward}
 
 pub there : {left : ℕ} {nodes : List ℕ} {at k kind : ℕ} → left ≢ 0 → length nodes ≡ 1024 → leb 1024 at ≡ false → kind ≡ kindOfNode (getD nodes at 0) → kind ≡ k → Node left nodes at k
 there {left} {nodes} {at} h l i e k = record { some = h; inside = omega (arith, l, leb-false 1024 at i); kind = sym e ∙ k }
 
 -- and past the last node
-pub past : (left : ℕ) (nodes : List ℕ) (at : ℕ) → length nodes ≡ 1024 → (left ≡ 0) ⊎ (leb 1024 at ≡ true) → (left ≡ 0) ⊎ (length nodes ≤ at)
-past left nodes at l (inl e) = inl e
-past left nodes at l (inr h) = inr (omega (arith, l, leb-true 1024 at h))
+pub not-there : (left : ℕ) (nodes : List ℕ) (at : ℕ) → length nodes ≡ 1024 → (left ≡ 0) ⊎ (leb 1024 at ≡ true) → (left ≡ 0) ⊎ (length nodes ≤ at)
+not-there left nodes at l (inl e) = inl e
+not-there left nodes at l (inr h) = inr (omega (arith, l, leb-true 1024 at h))
 
 -- a node that is there is passed
 pub next-after : {left : ℕ} {nodes : List ℕ} {at k : ℕ} → Node left nodes at k → at + 1 ≤ statementAt left nodes at .next
@@ -27,11 +27,3 @@ next-after {left} {nodes} {at} {k} n =
     let e = ap (λ (p : Placed). p .next) (placed-node n) ∙ place-next (kindOf k) (operandOf (getD nodes at 0)) (statementAt (left - 1) nodes) (at + 1) in
     let f = follow-forward (statementAt (left - 1) nodes) (next-forward nodes (left - 1)) (rowOf (kindOf k) .children) (at + 1) in
     omega arith
-
--- a number that is none of the kinds
-up : (n k : ℕ) → n ≤ k → k ≢ n → suc n ≤ k
-up n k h e = omega arith
-
-pub past-kinds : (k : ℕ) → k ≢ 0 → k ≢ 1 → k ≢ 2 → k ≢ 3 → k ≢ 4 → k ≢ 5 → k ≢ 6 → k ≢ 7 → k ≢ 8 → k ≢ 9 → k ≢ 10 → 11 ≤ k
-past-kinds k a b c d e f g h i j l =
-    up 10 k (up 9 k (up 8 k (up 7 k (up 6 k (up 5 k (up 4 k (up 3 k (up 2 k (up 1 k (up 0 k zero-le a) b) c) d) e) f) g) h) i) j) l

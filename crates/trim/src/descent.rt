@@ -11,8 +11,10 @@ ghost use Prim.Native.Nat.{_+_, _≤_, _<_};
 ghost use Rattle.sets.specs.Set.{has};
 ghost use Rattle.table.specs.inner.Places.{statementAt};
 ghost use Rattle.trim.specs.inner.Levels.{levelOut, startedIf, inElse, inTry, placesIn};
-ghost use Rattle.trim.specs.inner.Notes.{keptOf};
-ghost use Rattle.trim.specs.inner.Parts.{ExitReady, Ready, Done};
+ghost use Rattle.trim.specs.inner.Parts.{ExitReady, Trimmable, Done};
+
+// The places that are noted of try statements, by their numbers from 1: at most 59 stand around a statement.
+pub const PLACES: usize = 64;
 
 // What stands around a statement that is trimmed: whether it may be started, the try statements of the source, and how
 // many try statements stand around it in the trimmed table.
@@ -51,7 +53,7 @@ fn in_else(around: Around, guarded: bool) -> Around
 }
 
 // Around the body of a try, whose place is noted.
-fn in_try(places: &mut [u8; 64], around: Around, kept: bool) -> Around
+fn in_try(places: &mut [u8; PLACES], around: Around, kept: bool) -> Around
     requires { ⌜ (around .tries + 1 < 64) × (around .kept ≤ 60) ⌝ }
     ensures { λ r. ⌜ (r ≡ inTry kept around) × (now (places .exit) ≡ placesIn around (now (places .entry))) ⌝ }
 {
@@ -72,7 +74,7 @@ fn in_try(places: &mut [u8; 64], around: Around, kept: bool) -> Around
 }
 
 // The level in the trimmed table of an exit of the source.
-fn level_out(places: &[u8; 64], around: Around, level: Level) -> Level
+fn level_out(places: &[u8; PLACES], around: Around, level: Level) -> Level
     requires { ⌜ ExitReady (now places) around (level .0) ⌝ }
     ensures { λ r. ⌜ r .0 ≡ levelOut (now (places .entry)) around (level .0) ⌝ }
 {
@@ -90,30 +92,23 @@ fn keeps_pause(reached: u64, label: Label, started: bool) -> bool
     sets::contains(reached, label.0)
 }
 
-// Whether a try is kept where it is trimmed with b, from its note.
-fn keeps_try(note: u16, b: bool) -> bool
-    ensures { λ r. ⌜ r ≡ keptOf note b ⌝ }
-{
-    if b { note & 1 == 1 } else { note >> 1 & 1 == 1 }
-}
-
 // Writes the trimmed statement at a place into the work area, so that it ends at `to`. The second child is written first,
 // so nothing is ever moved.
 pub fn trim_at(
-    nodes: &[u16; 1024],
-    notes: &[u16; 1024],
+    nodes: &[u16; table::MOST_NODES],
+    notes: &[u16; table::MOST_NODES],
     r: u64,
     at: usize,
     left: usize,
     around: Around,
-    places: &mut [u8; 64],
-    work: &mut [u16; 4096],
+    places: &mut [u8; PLACES],
+    work: &mut [u16; table::MOST_NODES],
     to: usize,
 ) -> Part
-    requires { ⌜ Ready r (now nodes) (now notes) at left around (now places) (now work) to ⌝ }
+    requires { ⌜ Trimmable r (now nodes) (now notes) at left around (now places) (now work) to ⌝ }
     ensures { λ part. ⌜ Done r (statementAt left (now (nodes .entry)) at) at left around (now (places .entry)) (now (work .entry)) to part (now (places .exit)) (now (work .exit)) ⌝ }
 {
-    if left == 0 || 1024 <= at {
+    if left == 0 || table::MOST_NODES <= at {
         return work::nothing(to);
     }
     let node = nodes[at];
@@ -124,19 +119,23 @@ pub fn trim_at(
     let below = left - 1;
     let b = around.started;
     match table::kind_of(node) {
-        0 => work::nothing(to),
-        1 => work::put_if(work, to, keeps_pause(r, Label(operand), b), 1, operand, 0),
-        2 => work::put_if(work, to, b, 2, operand, 0),
-        3 => work::put_if(work, to, b, 3, operand, sets::singleton(operand)),
-        4 => {
+        table::NOTHING => work::nothing(to),
+        table::PAUSE => {
+            let label = Label(operand);
+            work::put_label(work, to, keeps_pause(r, label, b), table::PAUSE, label)
+        }
+        table::GOTOPAUSE => work::put_label(work, to, b, table::GOTOPAUSE, Label(operand)),
+        table::EMIT => work::put_if(work, to, b, table::EMIT, operand, sets::singleton(operand)),
+        table::EXIT => {
             let level = level_out(places, around, Level(operand));
-            work::put_if(work, to, b, 4, level.0, 0)
+            work::put_exit(work, to, b, level)
         }
-        5 => {
+        table::SIGNAL => {
             let p = trim_at(nodes, notes, r, first, below, around, places, work, to);
-            work::wrap_if(work, p, to, sets::contains(p.named, operand), 5, operand)
+            let named = sets::contains(p.named, operand);
+            work::wrap_if(work, p, to, named, table::SIGNAL, operand)
         }
-        6 => {
+        table::PRESENT => {
             let guarded = noted::can_end(note, false);
             let inner = in_else(around, guarded);
             let q = trim_at(nodes, notes, r, second, below, inner, places, work, to);
@@ -144,30 +143,30 @@ pub fn trim_at(
             let p = trim_at(nodes, notes, r, first, below, around, places, work, e.from);
             work::close_present(work, p, e, to, b, operand)
         }
-        7 => {
+        table::SEQUENCE => {
             let inner = with_started(around, noted::can_end(note, b));
             let q = trim_at(nodes, notes, r, second, below, inner, places, work, to);
             let p = trim_at(nodes, notes, r, first, below, around, places, work, q.from);
-            work::join_parts(work, p, q, to, 7)
+            work::join_parts(work, p, q, to, table::SEQUENCE)
         }
-        8 => {
+        table::PARALLEL => {
             let q = trim_at(nodes, notes, r, second, below, around, places, work, to);
             let p = trim_at(nodes, notes, r, first, below, around, places, work, q.from);
-            work::join_parts(work, p, q, to, 8)
+            work::join_parts(work, p, q, to, table::PARALLEL)
         }
-        9 => {
+        table::LOOP => {
             let again = noted::can_end(note, b);
             let inner = with_started(around, again | b);
             let p = trim_at(nodes, notes, r, first, below, inner, places, work, to);
-            work::wrap_if(work, p, to, again, 9, 0)
+            work::wrap_if(work, p, to, again, table::LOOP, 0)
         }
-        10 => {
-            let kept = keeps_try(note, b);
+        table::TRY => {
+            let kept = noted::keeps_try(note, b);
             let inner = in_try(places, around, kept);
             let p = trim_at(nodes, notes, r, first, below, inner, places, work, to);
-            work::wrap_if(work, p, to, kept, 10, 0)
+            work::wrap_if(work, p, to, kept, table::TRY, 0)
         }
-        11..=15 => work::nothing(to),
-        _ => work::nothing(to),
+        11..=15 => work::refused(to),
+        _ => work::refused(to),
     }
 }

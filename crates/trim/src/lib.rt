@@ -3,21 +3,29 @@
 // The cost: the nodes are cut out of the bytes and checked once; one pass, reach's, makes the summary that its rounds go by and
 // notes at the nodes what it found; one completes the notes and marks the try statements that are kept; one writes the trimmed
 // nodes, and one packs them. A pass looks at each node once and does a bounded number of steps there, whatever the depth.
-// Trimming works in an area of its own, four places for each node, and touches the caller's buffer only when the table is
-// known to fit.
+// Trimming works in an area of its own, which holds as many nodes as a table may have, and touches the caller's buffer only
+// when the table is known to fit.
 mod descent;
 mod marks;
 mod work;
 
 use descent::Around;
+use reach::Analysed;
 use table::Checked;
+use work::Laid;
 use work::Part;
 ghost use mathlib.Core.Path.{_≡_};
 ghost use lib.ListN.{length};
 ghost use Rattle.esterel.specs.Trimming.{trimmed};
-ghost use Rattle.reach.specs.inner.Rounds.{statementOf};
-ghost use Rattle.trim.specs.Answers.{trimOf, bufferOf};
-ghost use Rattle.trim.specs.inner.Root.{Tree, Lent, Ends, Fields, Finished};
+ghost use Rattle.table.specs.Outcomes.{numberOf};
+ghost use Rattle.table.specs.inner.Places.{statementOf, Known, Loaded};
+ghost use Rattle.trim.specs.Answers.{trimmedOutcome, trimOf, bufferOf};
+ghost use Rattle.trim.specs.inner.Root.{Lent, LaidOut, Fields, Finished};
+
+// "12 the trimmed table has over 1,024 nodes or depth over 60; 13 the output buffer is shorter than the trimmed table."
+const TOO_LARGE: u8 = 12;
+
+const TOO_SHORT: u8 = 13;
 
 // A trimmed table: its nodes, and its length in bytes.
 pub struct Written {
@@ -31,28 +39,57 @@ pub enum Trimmed {
     Accepted(Written),
 }
 
+// The number of an answer of trim: the refusal, 0 where the table is accepted.
+pub fn refusal(answer: Trimmed) -> u8
+    ensures { λ r. ⌜ r ≡ numberOf (trimmedOutcome answer) ⌝ }
+{
+    match answer {
+        Trimmed::Refused(why) => why,
+        Trimmed::Accepted(_) => 0,
+    }
+}
+
 // Trims the statement that the nodes hold, to the end of the work area.
 fn trim_nodes(
-    nodes: &[u16; 1024],
-    notes: &mut [u16; 1024],
-    endings: &mut [u64; 1024],
-    places: &mut [u8; 64],
-    work: &mut [u16; 4096],
-) -> Part
-    requires { ⌜ Tree (now nodes) ⌝ }
+    nodes: &[u16; table::MOST_NODES],
+    notes: &mut [u16; table::MOST_NODES],
+    endings: &mut [u64; table::MOST_NODES],
+    places: &mut [u8; descent::PLACES],
+    work: &mut [u16; table::MOST_NODES],
+) -> Laid
+    requires { ⌜ Loaded (now nodes) ⌝ }
     requires { ⌜ Lent (now notes) (now endings) (now places) (now work) ⌝ }
-    ensures { λ r. ⌜ Ends (trimmed (statementOf (now (nodes .entry)))) r (now (work .exit)) ⌝ }
+    ensures { λ r. ⌜ LaidOut (trimmed (statementOf (now (nodes .entry)))) r (now (work .exit)) ⌝ }
 {
-    let found = reach::settle(nodes, notes, endings);
-    marks::mark_at(nodes, 0, 60, notes, endings, found.set);
+    let analysed = reach::settle(nodes, notes, endings);
+    let Analysed::Rest(found) = analysed else {
+        return Laid::Refused;
+    };
+    let leaving = marks::mark_at(nodes, 0, table::DEEPEST, notes, endings, found.set);
+    if marks::is_refused(leaving) {
+        return Laid::Refused;
+    }
     let around = Around {
         started: true,
         tries: 0,
         kept: 0,
     };
-    let to: usize = 4096;
-    let part = descent::trim_at(nodes, notes, found.set, 0, 60, around, places, work, to);
-    work::fill(work, part, to)
+    let to = work::END;
+    let part = descent::trim_at(
+        nodes,
+        notes,
+        found.set,
+        0,
+        table::DEEPEST,
+        around,
+        places,
+        work,
+        to,
+    );
+    if work::is_refused(part) {
+        return Laid::Refused;
+    }
+    Laid::At(work::fill(work, part, to))
 }
 
 // The answer for the statement at the end of the work area, whose table is written where it fits.
@@ -61,54 +98,56 @@ fn finish(work: &[u16], part: Part, out: &mut [u8]) -> Trimmed
     ensures { λ r. ⌜ Finished (now (work .entry)) part (now (out .entry)) r (now (out .exit)) ⌝ }
 {
     let from = part.from;
-    let count = work.len() - from;
-    if 1024 < count {
-        return Trimmed::Refused(12);
+    let count = work::END - from;
+    if table::MOST_NODES < count {
+        return Trimmed::Refused(TOO_LARGE);
     }
-    if 60 < part.depth {
-        return Trimmed::Refused(12);
+    if table::DEEPEST < part.depth as usize {
+        return Trimmed::Refused(TOO_LARGE);
     }
     let bytes = table::length_of(count);
     if out.len() < bytes {
-        return Trimmed::Refused(13);
+        return Trimmed::Refused(TOO_SHORT);
     }
-    table::write_nodes(&work[from..], out);
-    Trimmed::Accepted(Written {
-        nodes: count as u16,
-        bytes,
-    })
+    let nodes = count as u16;
+    let first = from - work::HELD;
+    table::write_nodes(&work[first..], out);
+    Trimmed::Accepted(Written { nodes, bytes })
 }
 
 // Trim, with room lent for the nodes, what is noted of them, the places of try statements and the trimmed nodes.
 fn trim_with(
     table: &[u8],
     out: &mut [u8],
-    nodes: &mut [u16; 1024],
-    notes: &mut [u16; 1024],
-    endings: &mut [u64; 1024],
-    places: &mut [u8; 64],
-    work: &mut [u16; 4096],
+    nodes: &mut [u16; table::MOST_NODES],
+    notes: &mut [u16; table::MOST_NODES],
+    endings: &mut [u64; table::MOST_NODES],
+    places: &mut [u8; descent::PLACES],
+    work: &mut [u16; table::MOST_NODES],
 ) -> Trimmed
-    requires { ⌜ (length (now nodes) ≡ 1024) × Lent (now notes) (now endings) (now places) (now work) ⌝ }
-    ensures { λ r. ⌜ (r ≡ trimOf (now (table .entry)) (length (now (out .entry)))) × (now (out .exit) ≡ bufferOf (now (table .entry)) (now (out .entry))) ⌝ }
+    requires { ⌜ (length (now nodes) ≡ 1024) × Known (now nodes) × Lent (now notes) (now endings) (now places) (now work) ⌝ }
+    ensures { λ r. ⌜ (trimmedOutcome r ≡ trimOf (now (table .entry)) (length (now (out .entry)))) × (now (out .exit) ≡ bufferOf (now (table .entry)) (now (out .entry))) ⌝ }
 {
     let checked = table::load(table, nodes);
     let Checked::Accepted(_) = checked else {
         return Trimmed::Refused(table::refusal(checked));
     };
-    let part = trim_nodes(nodes, notes, endings, places, work);
+    let laid = trim_nodes(nodes, notes, endings, places, work);
+    let Laid::At(part) = laid else {
+        return Trimmed::Refused(table::NO_KIND);
+    };
     finish(work, part, out)
 }
 
 // Trims a table into the buffer.
 pub fn trim(table: &[u8], out: &mut [u8]) -> Trimmed
-    ensures { λ r. ⌜ (r ≡ trimOf (now (table .entry)) (length (now (out .entry)))) × (now (out .exit) ≡ bufferOf (now (table .entry)) (now (out .entry))) ⌝ }
+    ensures { λ r. ⌜ (trimmedOutcome r ≡ trimOf (now (table .entry)) (length (now (out .entry)))) × (now (out .exit) ≡ bufferOf (now (table .entry)) (now (out .entry))) ⌝ }
 {
-    let mut nodes = [0u16; 1024];
-    let mut notes = [0u16; 1024];
-    let mut endings = [0u64; 1024];
-    let mut places = [0u8; 64];
-    let mut work = [0u16; 4096];
+    let mut nodes = [0u16; table::MOST_NODES];
+    let mut notes = [0u16; table::MOST_NODES];
+    let mut endings = [0u64; table::MOST_NODES];
+    let mut places = [0u8; descent::PLACES];
+    let mut work = [0u16; table::MOST_NODES];
     trim_with(
         table,
         out,

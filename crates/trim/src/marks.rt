@@ -3,12 +3,16 @@
 use esterel::Level;
 use reach::noted;
 ghost use mathlib.Core.Path.{_≡_};
-ghost use Prim.Native.Nat.{_<_};
+ghost use Prim.Native.Nat.{_*_, _/_, _<_};
+ghost use lib.Dec.{ltb};
 ghost use lib.ListN.{length, getD, set};
-ghost use Rattle.trim.specs.inner.Marking.{exits, exitAt, eitherOf, exitsIf, inTurnOf, againOf, outsideOf, triedNote, withResumed, completed, Marks};
+ghost use Rattle.sets.specs.Set.{has};
+ghost use Rattle.table.specs.inner.Places.{Known};
+ghost use Rattle.reach.specs.inner.Notes.{withKept};
+ghost use Rattle.trim.specs.inner.Marking.{exits, refusedExits, exitAt, eitherOf, exitsIf, inTurnOf, againOf, outsideOf, completed, Marks};
 
-// The exits that are left in a trimmed statement and end outside it, bit d for level d + 1: where the statement is only
-// resumed, and where it may be started.
+// The exits that are left in a trimmed statement and end outside it, as sets of their levels, bit d for level d: where the
+// statement is only resumed, and where it may be started.
 pub struct Exits {
     pub resumed: u64,
     pub started: u64,
@@ -23,13 +27,33 @@ fn no_exits() -> Exits
     }
 }
 
+// What is found at a node of no kind: an exit of a level so high that no try around ends it, started or resumed, so that it
+// is left at the root. There no exit of an accepted statement is.
+fn refused() -> Exits
+    ensures { λ r. ⌜ r ≡ refusedExits ⌝ }
+{
+    let beyond = Level(63);
+    let levels = sets::singleton(beyond.0);
+    Exits {
+        resumed: levels,
+        started: levels,
+    }
+}
+
+// Whether a level is left at the root, which tells that a node of no kind was met. Bit 0 is no level's.
+pub fn is_refused(root: Exits) -> bool
+    ensures { λ r. ⌜ r ≡ ltb 1 (root .started) ⌝ }
+{
+    1 < root.started
+}
+
 // An exit that is left.
 fn exit_at(level: Level) -> Exits
     ensures { λ r. ⌜ r ≡ exitAt (level .0) ⌝ }
 {
     Exits {
         resumed: 0,
-        started: sets::singleton(level.0) >> 1,
+        started: sets::singleton(level.0),
     }
 }
 
@@ -68,32 +92,44 @@ fn again(note: u16, p: Exits) -> Exits
     }
 }
 
-// The note of a try: whether an exit left in its body ends at it. What is left leaves the try.
-fn mark_try(notes: &mut [u16; 1024], at: usize, note: u16, p: Exits) -> Exits
-    requires { ⌜ at < 1024 ⌝ }
-    ensures { λ r. ⌜ (r ≡ outsideOf p) × (now (notes .exit) ≡ set (now (notes .entry)) at (triedNote note p)) ⌝ }
+// Whether an exit ends at the try right around it.
+fn ends_here(levels: u64) -> bool
+    ensures { λ r. ⌜ r ≡ has levels 1 ⌝ }
 {
-    notes[at] = note / 4 * 4 + (p.resumed % 2) as u16 * 2 + (p.started % 2) as u16;
+    let nearest = Level(1);
+    sets::contains(levels, nearest.0)
+}
+
+// The levels as they are outside a try: those that end at it go, the others are one lower.
+fn lowered(levels: u64) -> u64
+    ensures { λ r. ⌜ r ≡ levels / 4 * 2 ⌝ }
+{
+    levels >> 2 << 1
+}
+
+// The note of a try: whether an exit left in its body ends at it. What is left leaves the try.
+fn mark_try(notes: &mut [u16; table::MOST_NODES], at: usize, note: u16, p: Exits) -> Exits
+    requires { ⌜ at < 1024 ⌝ }
+    ensures { λ r. ⌜ (r ≡ outsideOf p) × (now (notes .exit) ≡ set (now (notes .entry)) at (withKept note (has (p .resumed) 1) (has (p .started) 1))) ⌝ }
+{
+    notes[at] = noted::with_kept(note, ends_here(p.resumed), ends_here(p.started));
     Exits {
-        resumed: p.resumed >> 1,
-        started: p.started >> 1,
+        resumed: lowered(p.resumed),
+        started: lowered(p.started),
     }
 }
 
-// A note as reach leaves it, with whether the first child can end where it is resumed.
-fn with_resumed(note: u16, resumed: bool) -> u16
-    ensures { λ r. ⌜ r ≡ withResumed note resumed ⌝ }
-{
-    let started = note / 4 * 4 + note % 2;
-    if resumed { started + 2 } else { started }
-}
-
 // The note of a node is completed: its first child can end where it is resumed if it can from a label of `r` alone.
-fn complete(notes: &mut [u16; 1024], at: usize, endings: &[u64; 1024], r: u64) -> u16
+fn complete(
+    notes: &mut [u16; table::MOST_NODES],
+    at: usize,
+    endings: &[u64; table::MOST_NODES],
+    r: u64,
+) -> u16
     requires { ⌜ at < 1024 ⌝ }
     ensures { λ note. ⌜ (note ≡ completed (getD (now (notes .entry)) at 0) (getD (now (endings .entry)) at 0) r) × (now (notes .exit) ≡ set (now (notes .entry)) at note) ⌝ }
 {
-    let note = with_resumed(notes[at], endings[at] & r != 0);
+    let note = noted::with_resumed(notes[at], endings[at] & r != 0);
     notes[at] = note;
     note
 }
@@ -101,17 +137,17 @@ fn complete(notes: &mut [u16; 1024], at: usize, endings: &[u64; 1024], r: u64) -
 // The exits left in the statement at a place, which is resumed from labels of `r`; on the way the note of each node is
 // completed, and that of each try gets to say whether the try is kept.
 pub fn mark_at(
-    nodes: &[u16; 1024],
+    nodes: &[u16; table::MOST_NODES],
     at: usize,
     left: usize,
-    notes: &mut [u16; 1024],
-    endings: &[u64; 1024],
+    notes: &mut [u16; table::MOST_NODES],
+    endings: &[u64; table::MOST_NODES],
     r: u64,
 ) -> Exits
-    requires { ⌜ (length (now nodes) ≡ 1024) × (length (now notes) ≡ 1024) ⌝ }
+    requires { ⌜ (length (now nodes) ≡ 1024) × (length (now notes) ≡ 1024) × Known (now nodes) ⌝ }
     ensures { λ e. ⌜ Marks r (now (nodes .entry)) (now (endings .entry)) left at (now (notes .entry)) e (now (notes .exit)) ⌝ }
 {
-    if left == 0 || 1024 <= at {
+    if left == 0 || table::MOST_NODES <= at {
         return no_exits();
     }
     let node = nodes[at];
@@ -120,30 +156,30 @@ pub fn mark_at(
     let second = noted::second_place(note);
     let below = left - 1;
     match table::kind_of(node) {
-        0 => no_exits(),
-        1 => no_exits(),
-        2 => no_exits(),
-        3 => no_exits(),
-        4 => exit_at(Level(table::operand_of(node))),
-        5 => mark_at(nodes, first, below, notes, endings, r),
-        6 => {
+        table::NOTHING => no_exits(),
+        table::PAUSE => no_exits(),
+        table::GOTOPAUSE => no_exits(),
+        table::EMIT => no_exits(),
+        table::EXIT => exit_at(Level(table::operand_of(node))),
+        table::SIGNAL => mark_at(nodes, first, below, notes, endings, r),
+        table::PRESENT => {
             let p = mark_at(nodes, first, below, notes, endings, r);
             either(p, mark_at(nodes, second, below, notes, endings, r))
         }
-        7 => {
+        table::SEQUENCE => {
             let p = mark_at(nodes, first, below, notes, endings, r);
             in_turn(note, p, mark_at(nodes, second, below, notes, endings, r))
         }
-        8 => {
+        table::PARALLEL => {
             let p = mark_at(nodes, first, below, notes, endings, r);
             either(p, mark_at(nodes, second, below, notes, endings, r))
         }
-        9 => again(note, mark_at(nodes, first, below, notes, endings, r)),
-        10 => {
+        table::LOOP => again(note, mark_at(nodes, first, below, notes, endings, r)),
+        table::TRY => {
             let p = mark_at(nodes, first, below, notes, endings, r);
             mark_try(notes, at, note, p)
         }
-        11..=15 => no_exits(),
-        _ => no_exits(),
+        11..=15 => refused(),
+        _ => refused(),
     }
 }

@@ -1,17 +1,36 @@
 // The steps of trimming in the work area, which is filled from its end: a part is written right before what follows it,
 // the parent after its children, so nothing is ever moved.
+use esterel::Label;
+use esterel::Level;
 ghost use mathlib.Core.Path.{_≡_};
-ghost use mathlib.Core.Bool.{cond};
-ghost use Prim.Native.Nat.{_-_, _≤_, _<_, max};
-ghost use lib.ListN.{length, set};
-ghost use Rattle.table.specs.inner.Making.{nodeOf};
-ghost use Rattle.trim.specs.inner.Parts.{nothingAt, LeafPut, Filled, Wrapped, Joined, ElseClosed, PresentClosed};
+ghost use mathlib.Core.Bool.{true, cond};
+ghost use Prim.Native.Nat.{_-_, _≤_, _<_};
+ghost use Rattle.sets.specs.Set.{has};
+ghost use Rattle.table.specs.Writing.{node};
+ghost use Rattle.trim.specs.inner.Parts.{heldWith, nothingAt, refusedAt, Fitting, LeafPut, Filled, Wrapped, PartsJoined, ElseClosed, PresentClosed};
+
+// Where the trimmed statement ends. Places are counted down from here; a node of the source takes at most four.
+pub const END: usize = 4096;
+
+// The first place that the work area holds: from here to the end are as many as a table may have nodes. What stands before
+// is counted and not held, since its table is refused.
+pub const HELD: usize = 3072;
+
+// A number that no signal has: it is among those that a part names where a node of no kind was met.
+const REFUSED: u8 = 63;
 
 // A trimmed part in the work area: where its nodes begin, its depth, and the signals that its emits and presents name.
 pub struct Part {
     pub from: usize,
-    pub depth: u8,
+    pub depth: u16,
     pub named: u64,
+}
+
+// Where the trimmed statement stands.
+pub enum Laid {
+    // A node was of no kind.
+    Refused,
+    At(Part),
 }
 
 // A part that is nothing has no node.
@@ -25,32 +44,48 @@ pub fn nothing(to: usize) -> Part
     }
 }
 
-// One node in front of what stands from a place on.
-fn put(work: &mut [u16; 4096], from: usize, kind: u16, operand: u8) -> usize
-    requires { ⌜ (1 ≤ from) × (from ≤ 4096) × (kind < 16) ⌝ }
-    ensures { λ r. ⌜ (r ≡ from - 1) × (now (work .exit) ≡ set (now (work .entry)) (from - 1) (nodeOf kind operand)) ⌝ }
+// What is made of a node of no kind. What a part names is named by every part around it, so the root tells.
+pub fn refused(to: usize) -> Part
+    ensures { λ r. ⌜ r ≡ refusedAt to ⌝ }
 {
-    work[from - 1] = table::node_of(kind, operand);
-    from - 1
+    Part {
+        from: to,
+        depth: 0,
+        named: sets::singleton(REFUSED),
+    }
 }
 
-fn deeper(a: u8, b: u8) -> u8
-    ensures { λ r. ⌜ r ≡ max a b ⌝ }
+// Whether a node of no kind was met on the way to the part.
+pub fn is_refused(p: Part) -> bool
+    ensures { λ r. ⌜ r ≡ has (p .named) 63 ⌝ }
 {
-    if a < b { b } else { a }
+    sets::contains(p.named, REFUSED)
+}
+
+// One node in front of what stands from a place on. Its operand is in the range of its kind, so `node_of` leaves it as it is.
+fn put(work: &mut [u16; table::MOST_NODES], from: usize, kind: u16, operand: u8) -> usize
+    requires { ⌜ (1 ≤ from) × (from ≤ 4096) × Fitting kind operand ⌝ }
+    ensures { λ r. ⌜ (r ≡ from - 1) × (now (work .exit) ≡ heldWith (now (work .entry)) (from - 1) (node kind operand)) ⌝ }
+{
+    let at = from - 1;
+    if at < HELD {
+        return at;
+    }
+    work[at - HELD] = table::node_of(kind, operand);
+    at
 }
 
 // A statement of one node, or nothing.
 pub fn put_if(
-    work: &mut [u16; 4096],
+    work: &mut [u16; table::MOST_NODES],
     to: usize,
     keep: bool,
     kind: u16,
     operand: u8,
     named: u64,
 ) -> Part
-    requires { ⌜ (1 ≤ to) × (to ≤ 4096) × (to ≤ length (now work)) × (kind < 16) ⌝ }
-    ensures { λ r. ⌜ LeafPut (nodeOf kind operand) named keep (now (work .entry)) to r (now (work .exit)) ⌝ }
+    requires { ⌜ (1 ≤ to) × (to ≤ 4096) × (keep ≡ true → Fitting kind operand) ⌝ }
+    ensures { λ r. ⌜ LeafPut (node kind operand) named keep (now (work .entry)) to r (now (work .exit)) ⌝ }
 {
     if keep {
         return Part {
@@ -62,15 +97,37 @@ pub fn put_if(
     nothing(to)
 }
 
+// A pause or a gotopause, or nothing.
+pub fn put_label(
+    work: &mut [u16; table::MOST_NODES],
+    to: usize,
+    keep: bool,
+    kind: u16,
+    label: Label,
+) -> Part
+    requires { ⌜ (1 ≤ to) × (to ≤ 4096) × (keep ≡ true → Fitting kind (label .0)) ⌝ }
+    ensures { λ r. ⌜ LeafPut (node kind (label .0)) 0 keep (now (work .entry)) to r (now (work .exit)) ⌝ }
+{
+    put_if(work, to, keep, kind, label.0, 0)
+}
+
+// An exit, or nothing.
+pub fn put_exit(work: &mut [u16; table::MOST_NODES], to: usize, keep: bool, level: Level) -> Part
+    requires { ⌜ (1 ≤ to) × (to ≤ 4096) × (keep ≡ true → Fitting 4 (level .0)) ⌝ }
+    ensures { λ r. ⌜ LeafPut (node 4 (level .0)) 0 keep (now (work .entry)) to r (now (work .exit)) ⌝ }
+{
+    put_if(work, to, keep, table::EXIT, level.0, 0)
+}
+
 // Nothing gets its node where a statement has to stand.
-pub fn fill(work: &mut [u16; 4096], p: Part, to: usize) -> Part
+pub fn fill(work: &mut [u16; table::MOST_NODES], p: Part, to: usize) -> Part
     requires { ⌜ (1 ≤ p .from) × (p .from ≤ 4096) ⌝ }
     ensures { λ r. ⌜ Filled (now (work .entry)) to p r (now (work .exit)) ⌝ }
 {
     let from = p.from;
     if from == to {
         return Part {
-            from: put(work, from, 0, 0),
+            from: put(work, from, table::NOTHING, 0),
             depth: 1,
             named: p.named,
         };
@@ -80,15 +137,15 @@ pub fn fill(work: &mut [u16; 4096], p: Part, to: usize) -> Part
 
 // The part alone, or a statement over it.
 pub fn wrap_if(
-    work: &mut [u16; 4096],
+    work: &mut [u16; table::MOST_NODES],
     p: Part,
     to: usize,
     wrap: bool,
     kind: u16,
     operand: u8,
 ) -> Part
-    requires { ⌜ (2 ≤ p .from) × (p .from ≤ 4096) × (p .depth ≤ 200) × (kind < 16) ⌝ }
-    ensures { λ r. ⌜ Wrapped (nodeOf kind operand) wrap (now (work .entry)) to p r (now (work .exit)) ⌝ }
+    requires { ⌜ (2 ≤ p .from) × (p .from ≤ 4096) × (p .depth ≤ 200) × Fitting kind operand ⌝ }
+    ensures { λ r. ⌜ Wrapped (node kind operand) wrap (now (work .entry)) to p r (now (work .exit)) ⌝ }
 {
     if !wrap {
         return p;
@@ -102,12 +159,18 @@ pub fn wrap_if(
 }
 
 // Two parts, one before the other; one that is nothing is dropped.
-pub fn join_parts(work: &mut [u16; 4096], p: Part, q: Part, to: usize, kind: u16) -> Part
-    requires { ⌜ (1 ≤ p .from) × (p .from ≤ 4096) × (p .depth ≤ 200) × (q .depth ≤ 200) × (kind < 16) ⌝ }
-    ensures { λ r. ⌜ Joined (nodeOf kind 0) (now (work .entry)) to p q r (now (work .exit)) ⌝ }
+pub fn join_parts(
+    work: &mut [u16; table::MOST_NODES],
+    p: Part,
+    q: Part,
+    to: usize,
+    kind: u16,
+) -> Part
+    requires { ⌜ (1 ≤ p .from) × (p .from ≤ 4096) × (p .depth ≤ 200) × (q .depth ≤ 200) × Fitting kind 0 ⌝ }
+    ensures { λ r. ⌜ PartsJoined (node kind 0) (now (work .entry)) to p q r (now (work .exit)) ⌝ }
 {
     let from = p.from;
-    let depth = deeper(p.depth, q.depth);
+    let depth = esterel::larger(p.depth, q.depth);
     let named = p.named | q.named;
     if from == q.from {
         return Part { from, depth, named };
@@ -123,7 +186,13 @@ pub fn join_parts(work: &mut [u16; 4096], p: Part, q: Part, to: usize, kind: u16
 }
 
 // The else branch: whole where the present is started; in a try where it is resumed and the first branch can end.
-pub fn close_else(work: &mut [u16; 4096], q: Part, to: usize, started: bool, guarded: bool) -> Part
+pub fn close_else(
+    work: &mut [u16; table::MOST_NODES],
+    q: Part,
+    to: usize,
+    started: bool,
+    guarded: bool,
+) -> Part
     requires { ⌜ (3 ≤ q .from) × (q .from ≤ 4096) × (q .depth ≤ 200) ⌝ }
     ensures { λ r. ⌜ ElseClosed started guarded (now (work .entry)) to q r (now (work .exit)) ⌝ }
 {
@@ -137,10 +206,11 @@ pub fn close_else(work: &mut [u16; 4096], q: Part, to: usize, started: bool, gua
     if !guarded {
         return q;
     }
-    let exit = put(work, from, 4, 1);
-    let body = put(work, exit, 7, 0);
+    let nearest = Level(1);
+    let exit = put(work, from, table::EXIT, nearest.0);
+    let body = put(work, exit, table::SEQUENCE, 0);
     Part {
-        from: put(work, body, 10, 0),
+        from: put(work, body, table::TRY, 0),
         depth: q.depth + 2,
         named: q.named,
     }
@@ -148,7 +218,7 @@ pub fn close_else(work: &mut [u16; 4096], q: Part, to: usize, started: bool, gua
 
 // A present over its branches, or what is left of it where it is only resumed.
 pub fn close_present(
-    work: &mut [u16; 4096],
+    work: &mut [u16; table::MOST_NODES],
     p: Part,
     q: Part,
     to: usize,
@@ -159,13 +229,13 @@ pub fn close_present(
     ensures { λ r. ⌜ PresentClosed started signal (now (work .entry)) to p q r (now (work .exit)) ⌝ }
 {
     if !started {
-        return join_parts(work, p, q, to, 7);
+        return join_parts(work, p, q, to, table::SEQUENCE);
     }
     let whole = fill(work, p, q.from);
     let named = whole.named | q.named | sets::singleton(signal);
     Part {
-        from: put(work, whole.from, 6, signal),
-        depth: deeper(whole.depth, q.depth) + 1,
+        from: put(work, whole.from, table::PRESENT, signal),
+        depth: esterel::larger(whole.depth, q.depth) + 1,
         named,
     }
 }

@@ -1,24 +1,17 @@
 -- The notes that trimming goes by: of a node's first child, for R, but the note of a try says whether the try is kept.
-use Prim.Native.Nat.{ℕ, _+_, _*_}
+use Prim.Native.Nat.{ℕ}
 use mathlib.Core.Path.{_≡_}
-use mathlib.Core.Bool.{Bool, true, false, cond}
+use mathlib.Core.Bool.{true, false, cond}
 use mathlib.Core.List.{List}
 use lib.Dec.{eqb}
 use lib.ListN.{getD}
-use Rattle.sets.specs.Set.{has}
 use Rattle.esterel.specs.Trimming.{endsAt, trim}
 use Rattle.table.specs.inner.Places.{Placed}
-use Rattle.reach.specs.inner.CodeSets.{flagOf}
-use Rattle.reach.specs.inner.Notes.{noteOf}
+use Rattle.reach.specs.inner.Notes.{noteWith, noteOf}
 
 -- the note of a try, of its body: the place after it, and whether an exit left in it ends at the try, with 0 and with 1
 unfoldable pub tryNote : ℕ → Placed → ℕ
-tryNote R p = p .next * 4 + flagOf (endsAt 0 (trim R false (p .statement))) * 2 + flagOf (endsAt 0 (trim R true (p .statement)))
-
--- what it says
-unfoldable pub keptOf : ℕ → Bool → Bool
-keptOf note true = has note 0
-keptOf note false = has note 1
+tryNote R p = noteWith (p .next) (endsAt 0 (trim R false (p .statement))) (endsAt 0 (trim R true (p .statement)))
 
 -- the note of a node, by its kind and its first child
 unfoldable pub trimNote : ℕ → ℕ → Placed → ℕ

@@ -4,12 +4,14 @@ use Prim.Native.Nat.{ℕ, suc, _+_, _-_, _*_, _≤_, _<_, max}
 use mathlib.Core.Path.{_≡_}
 use mathlib.Core.Bool.{Bool, true, false, cond, _||_}
 use mathlib.Core.List.{List, [], _∷_, _++_}
-use lib.ListN.{length, getD, take, drop}
-use Rattle.sets.specs.Set.{has}
+use lib.Dec.{ltb}
+use lib.ListN.{length, getD, set, take, drop}
+use Rattle.sets.specs.Set.{has, only}
 use Rattle.esterel.specs.Statement.{Statement, nothing, present, sequence, depth, Valid}
 use Rattle.esterel.specs.Trimming.{isNothing, names, endsAt, joinParts, trim}
+use Rattle.table.specs.Kinds.{kindOf, rowOf}
 use Rattle.table.specs.Writing.{nodes}
-use Rattle.table.specs.inner.Places.{Placed, statementAt}
+use Rattle.table.specs.inner.Places.{Placed, statementAt, Known}
 use Rattle.trim.specs.declared.descent.Around.{Around}
 use Rattle.trim.specs.declared.work.Part.{Part}
 use Rattle.trim.specs.inner.Levels.{trimmedIn, wrapIf, guardedIf}
@@ -25,9 +27,13 @@ part t = cond (isNothing t) [] (nodes t)
 unfoldable pub partDepth : Statement → ℕ
 partDepth t = cond (isNothing t) 0 (depth t)
 
--- the list was written so that it ends at `to`; the rest is as it was
+-- places are counted from 0 to 4,096, and the work area holds those from 3,072 on: with x at a place
+abbrev pub heldWith : List ℕ → ℕ → ℕ → List ℕ
+heldWith work at x = cond (ltb at 3072) work (set work (at - 3072) x)
+
+-- the list was written so that it ends at `to`, whatever stands in the places that are not held; the rest is as it was
 pub record Puts (l work : List ℕ) (to from : ℕ) (work′ : List ℕ) : Type 0 where
-  pub put : work′ ≡ take from work ++ (l ++ drop to work)
+  pub put : (all : List ℕ) → length all ≡ 4096 → drop 3072 all ≡ work → work′ ≡ drop 3072 (take from all ++ (l ++ drop to all))
   pub from-is : from + length l ≡ to
 
 pub record Stands (l : List ℕ) (deep : ℕ) (t : Statement) (work : List ℕ) (to : ℕ) (r : Part) (work′ : List ℕ) : Type 0 where
@@ -36,14 +42,24 @@ pub record Stands (l : List ℕ) (deep : ℕ) (t : Statement) (work : List ℕ) 
   pub names-are : (S : ℕ) → has (r .named) S ≡ names S t
 
 -- the statement as a part, and as a whole statement, of one node at least
-abbrev pub Made : Statement → List ℕ → ℕ → Part → List ℕ → Type 0
-Made t = Stands (part t) (partDepth t) t
+abbrev pub PartStands : Statement → List ℕ → ℕ → Part → List ℕ → Type 0
+PartStands t = Stands (part t) (partDepth t) t
 
-abbrev pub Whole : Statement → List ℕ → ℕ → Part → List ℕ → Type 0
-Whole t = Stands (nodes t) (depth t) t
+abbrev pub WholeStands : Statement → List ℕ → ℕ → Part → List ℕ → Type 0
+WholeStands t = Stands (nodes t) (depth t) t
 
 abbrev pub nothingAt : ℕ → Part
 nothingAt to = record { from = to; depth = 0; named = 0 }
+
+-- what is made of a node of no kind: it names what no signal is
+abbrev pub refusedAt : ℕ → Part
+refusedAt to = record { from = to; depth = 0; named = only 63 }
+
+-- a kind, and an operand in its range
+pub record Fitting (kind operand : ℕ) : Type 0 where
+  pub kind-in : kind < 16
+  pub least : rowOf (kindOf kind) .least ≤ operand
+  pub most : operand ≤ rowOf (kindOf kind) .most
 
 -- ---- statements by their nodes
 
@@ -75,33 +91,33 @@ pub record ExitReady (places : List ℕ) (a : Around) (level : ℕ) : Type 0 whe
 -- ---- the steps; `near` and `shallow` bound the room and the depth that a step takes
 
 pub record LeafPut (x named : ℕ) (keep : Bool) (work : List ℕ) (to : ℕ) (r : Part) (work′ : List ℕ) : Type 0 where
-  pub made : (t : Statement) → Leaf t x named → Made (cond keep t nothing) work to r work′
+  pub made : (t : Statement) → Leaf t x named → PartStands (cond keep t nothing) work to r work′
   pub near : to ≤ r .from + 1
   pub shallow : r .depth ≤ 1
 
 -- a part that is nothing gets its node
 pub record Filled (work : List ℕ) (to : ℕ) (p r : Part) (work′ : List ℕ) : Type 0 where
-  pub made : (t : Statement) (before : List ℕ) → to ≤ length before → Made t before to p work → Whole t before to r work′
+  pub made : (t : Statement) (before : List ℕ) → to ≤ 4096 → PartStands t before to p work → WholeStands t before to r work′
   pub near : p .from ≤ r .from + 1
   pub below : r .from ≤ p .from
   pub shallow : r .depth ≤ p .depth + 1
 
 pub record Wrapped (x : ℕ) (z : Bool) (work : List ℕ) (to : ℕ) (p r : Part) (work′ : List ℕ) : Type 0 where
-  pub made : (f : Statement → Statement) (t : Statement) (before : List ℕ) → Wraps f x → to ≤ length before
-      → Made t before to p work → Made (wrapIf f z t) before to r work′
+  pub made : (f : Statement → Statement) (t : Statement) (before : List ℕ) → Wraps f x → to ≤ 4096
+      → PartStands t before to p work → PartStands (wrapIf f z t) before to r work′
   pub near : p .from ≤ r .from + 2
   pub shallow : r .depth ≤ p .depth + 2
 
-pub record Joined (x : ℕ) (work : List ℕ) (to : ℕ) (p q r : Part) (work′ : List ℕ) : Type 0 where
-  pub made : (f : Statement → Statement → Statement) (s t : Statement) (before between : List ℕ) → Joins f x 0 → to ≤ length before
-      → Made t before to q between → Made s between (q .from) p work → Made (joinParts f s t) before to r work′
+pub record PartsJoined (x : ℕ) (work : List ℕ) (to : ℕ) (p q r : Part) (work′ : List ℕ) : Type 0 where
+  pub made : (f : Statement → Statement → Statement) (s t : Statement) (before between : List ℕ) → Joins f x 0 → to ≤ 4096
+      → PartStands t before to q between → PartStands s between (q .from) p work → PartStands (joinParts f s t) before to r work′
   pub near : p .from ≤ r .from + 1
   pub shallow : r .depth ≤ max (p .depth) (q .depth) + 1
 
 -- the else branch of a present: whole where the present is started, in its try or not where it is resumed
 abbrev pub Branch : Bool → Statement → List ℕ → ℕ → Part → List ℕ → Type 0
-Branch true t = Whole t
-Branch false t = Made t
+Branch true t = WholeStands t
+Branch false t = PartStands t
 
 abbrev pub branchIf : Bool → Bool → Statement → Statement
 branchIf true z t = t
@@ -112,13 +128,13 @@ presentIf true S s t = present S s t
 presentIf false S s t = joinParts sequence s t
 
 pub record ElseClosed (started z : Bool) (work : List ℕ) (to : ℕ) (q r : Part) (work′ : List ℕ) : Type 0 where
-  pub made : (t : Statement) (before : List ℕ) → to ≤ length before → Made t before to q work → Branch started (branchIf started z t) before to r work′
+  pub made : (t : Statement) (before : List ℕ) → to ≤ 4096 → PartStands t before to q work → Branch started (branchIf started z t) before to r work′
   pub near : q .from ≤ r .from + cond started 1 3
   pub shallow : r .depth ≤ q .depth + 2
 
 pub record PresentClosed (started : Bool) (S : ℕ) (work : List ℕ) (to : ℕ) (p q r : Part) (work′ : List ℕ) : Type 0 where
-  pub made : (s t : Statement) (before between : List ℕ) → to ≤ length before
-      → Branch started t before to q between → Made s between (q .from) p work → Made (presentIf started S s t) before to r work′
+  pub made : (s t : Statement) (before between : List ℕ) → to ≤ 4096
+      → Branch started t before to q between → PartStands s between (q .from) p work → PartStands (presentIf started S s t) before to r work′
   pub near : p .from ≤ r .from + cond started 2 1
   pub shallow : r .depth ≤ max (p .depth + 1) (q .depth) + 1
 
@@ -129,13 +145,13 @@ abbrev pub Caught : ℕ → List ℕ → Around → Statement → Type 0
 Caught R places a p = (d : ℕ) → d < a .tries → endsAt d (trim R (a .started) p) ≡ true → getD places (a .tries - d) 0 < a .kept
 
 -- what trimming the statement at a place asks: 4 nodes of room for each node
-pub record Ready (R : ℕ) (xs notes : List ℕ) (at left : ℕ) (a : Around) (places work : List ℕ) (to : ℕ) : Type 0 where
+pub record Trimmable (R : ℕ) (xs notes : List ℕ) (at left : ℕ) (a : Around) (places work : List ℕ) (to : ℕ) : Type 0 where
   pub valid : Valid (a .tries) (statementAt left xs at .statement)
   pub noted : Noted (TrimNote R notes) xs left at
   pub all : length xs ≡ 1024
+  pub known : Known xs
   pub room : 4 * statementAt left xs at .next ≤ to + 4 * at
-  pub to-in : to ≤ length work
-  pub work-is : length work ≡ 4096
+  pub to-in : to ≤ 4096
   pub tries-in : a .tries + left ≤ 60
   pub kept-in : a .kept + left ≤ 60
   pub wide : length places ≡ 64
@@ -144,7 +160,7 @@ pub record Ready (R : ℕ) (xs notes : List ℕ) (at left : ℕ) (a : Around) (p
 
 -- the statement p, which begins at a place, was trimmed
 pub record Done (R : ℕ) (p : Placed) (at left : ℕ) (a : Around) (places work : List ℕ) (to : ℕ) (r : Part) (places′ work′ : List ℕ) : Type 0 where
-  pub made : Made (trimmedIn R places a (p .statement)) work to r work′
+  pub made : PartStands (trimmedIn R places a (p .statement)) work to r work′
   pub room : to + 4 * at ≤ r .from + 4 * p .next
   pub shallow : r .depth ≤ 3 * left
   pub same : (i : ℕ) → i ≤ a .tries → getD places′ i 0 ≡ getD places i 0

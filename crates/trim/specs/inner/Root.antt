@@ -1,48 +1,46 @@
--- Trimming a whole statement: what it asks, where the trimmed statement stands, and how the operation ends.
-use Prim.Native.Nat.{ℕ, _≤_}
+-- Trimming a whole statement: where the trimmed statement stands, and how the operation ends.
+use Prim.Native.Nat.{ℕ, _+_, _-_, _≤_}
 use mathlib.Core.Path.{_≡_}
 use mathlib.Core.Logic.{_≢_}
 use mathlib.Core.List.{List}
 use lib.ListN.{length, getD, drop}
-use Rattle.esterel.specs.Statement.{Statement, size, depth, Valid}
-use Rattle.table.specs.Reading.{deepest}
+use Rattle.esterel.specs.Statement.{Statement, size, depth}
 use Rattle.table.specs.Bits.{Below}
-use Rattle.table.specs.inner.Places.{statementAt}
 use Rattle.table.specs.Writing.{nodes}
-use Rattle.reach.specs.inner.Rounds.{statementOf}
+use Rattle.trim.specs.declared.work.Laid.{Laid}
+use Rattle.trim.specs.declared.work.Laid.the-variants.{At}
 use Rattle.trim.specs.declared.work.Part.{Part}
 use Rattle.trim.specs.declared.Trimmed.{Trimmed}
-use Rattle.trim.specs.Answers.{answerFor, bufferFor}
+use Rattle.trim.specs.Answers.{trimmedOutcome, trimFor, bufferAfter}
 
--- a buffer of nodes that begins with those of a valid statement
-pub record Tree (nodes : List ℕ) : Type 0 where
-  pub all : length nodes ≡ 1024
-  pub few : statementAt deepest nodes 0 .next ≤ 1024
-  pub valid : Valid 0 (statementOf nodes)
-  pub shallow : depth (statementOf nodes) ≤ deepest
-  pub small : size (statementOf nodes) ≤ 1024
-
--- room for trimming them
+-- room for trimming the nodes of a table
 pub record Lent (notes endings places work : List ℕ) : Type 0 where
   pub notes-are : length notes ≡ 1024
   pub endings-are : length endings ≡ 1024
   pub places-are : length places ≡ 64
   pub outermost : getD places 0 0 ≡ 0
-  pub work-is : length work ≡ 4096
+  pub work-is : length work ≡ 1024
 
--- the statement q stands at the end of the work area
+-- the statement q stands at the end of the work area, as far as that holds it
 pub record Ends (q : Statement) (part : Part) (work : List ℕ) : Type 0 where
-  pub stands : drop (part .from) work ≡ nodes q
-  pub within : part .from ≤ length work
+  pub count : part .from + size q ≡ 4096
+  pub stands : 3072 ≤ part .from → drop (part .from - 3072) work ≡ nodes q
   pub deep : part .depth ≡ depth q
+
+-- it stands there, and no node was of no kind
+pub record LaidOut (q : Statement) (laid : Laid) (work : List ℕ) : Type 0 where
+  pub part : Part
+  pub at : laid ≡ At part
+  pub ends : Ends q part work
 
 -- nodes at the end of the work area that fit their fields
 pub record Fields (part : Part) (work : List ℕ) : Type 0 where
-  pub within : part .from ≤ length work
-  pub few : length work ≤ 4096
+  pub within : part .from ≤ 4096
   pub some : part .from ≢ 0
-  pub fields : Below 1024 (drop (part .from) work)
+  pub long : length work ≡ 1024
+  pub fields : 3072 ≤ part .from → Below 1024 (drop (part .from - 3072) work)
 
 -- the end of trimming, whatever statement stands there
 unfoldable pub Finished : List ℕ → Part → List ℕ → Trimmed → List ℕ → Type 0
-Finished work part out r out′ = (q : Statement) → Ends q part work → (r ≡ answerFor q (length out)) × (out′ ≡ bufferFor q out)
+Finished work part out r out′ =
+    (q : Statement) → Ends q part work → (trimmedOutcome r ≡ trimFor q (length out)) × (out′ ≡ bufferAfter (trimFor q (length out)) q out)

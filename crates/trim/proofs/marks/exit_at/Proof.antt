@@ -1,5 +1,4 @@
--- `marks::exit_at` meets its contract: level d + 1 has bit d.
-use Prim.Native.Nat.{ℕ, _/_}
+-- `marks::exit_at` meets its contract: the set of the one level.
 use mathlib.Core.Path.{ap}
 use Rattle.trim.specs.inner.Marking.{exits}
 use borrow.Author.Needs.{needs}
@@ -10,7 +9,7 @@ singleton-requires : tie.Need-singleton-requires
 singleton-requires c κs = search needs
 
 returns : tie.Need-returns
-returns c = ap (λ (n : ℕ). exits 0 (n / 2)) (c .singleton .ensures)
+returns c = ap (exits 0) (c .singleton .ensures)
 
 pub exit-at-spec : {M : Type 1} → statement M
 exit-at-spec = tie.close (tie.spec singleton-requires returns)

@@ -21,7 +21,13 @@ exits-if-requires-2 : tie.Need-exits-if-requires-2
 exits-if-requires-2 c κs = search needs
 
 returns : tie.Need-returns
-returns c = let s = c .before .before .before .before .before .before in ap₂ (λ (m n : ℕ). exits (bitOr (s .args .p .resumed) m) (bitOr (s .args .p .started) n)) (c .before .before .before .before .exits-if .ensures ∙ ap (λ (z : Bool). exitsIf z (s .args .q)) (c .before .before .before .before .before .can-end .ensures)) (c .before .exits-if2 .ensures ∙ ap (λ (z : Bool). exitsIf z (s .args .q)) (c .before .before .can-end2 .ensures))
+returns c =
+    let two = c .before in
+    let one = two .before .before .before in
+    let a = one .before .before .args in
+    ap₂ (λ (m n : ℕ). exits (bitOr (a .p .resumed) m) (bitOr (a .p .started) n))
+    (one .exits-if .ensures ∙ ap (λ (z : Bool). exitsIf z (a .q)) (one .before .can-end .ensures))
+    (two .exits-if2 .ensures ∙ ap (λ (z : Bool). exitsIf z (a .q)) (two .before .can-end2 .ensures))
 
 pub in-turn-spec : {M : Type 1} → statement M
 in-turn-spec =
