@@ -19,7 +19,7 @@ ghost use lib.ListN.{length};
 ghost use Rattle.esterel.specs.Trimming.{trimmed};
 ghost use Rattle.table.specs.inner.Places.{statementOf, Known, Loaded};
 ghost use Rattle.trim.specs.Answers.{trimmedOutcome, trimOf, bufferOf};
-ghost use Rattle.trim.specs.inner.Root.{Lent, LaidOut, Fields, Finished};
+ghost use Rattle.trim.specs.inner.Root.{Lent, LaidOut, EndFits, Finished};
 
 // "6 kind above 10": a pass over the nodes met one of no kind, which check lets through nowhere.
 const NO_KIND: u8 = 6;
@@ -86,7 +86,7 @@ fn trim_nodes(
 
 // The answer for the statement at the end of the work area, whose table is written where it fits.
 fn finish(work: &[u16], part: Part, out: &mut [u8]) -> Trimmed
-    requires { ⌜ Fields part (now work) ⌝ }
+    requires { ⌜ EndFits part (now work) ⌝ }
     ensures { λ r. ⌜ Finished (now (work .entry)) part (now (out .entry)) r (now (out .exit)) ⌝ }
 {
     let from = part.from;
