@@ -1,6 +1,6 @@
 # Deskheron.
 #   make         proves and builds everything that there is, and shows a report
-#   make test    every test, then the whole gate, whose last line counts what passed
+#   make test    the tests, then the whole gate, whose last line counts what passed
 #   make long    over ten million calls of the library compared with the second implementation
 #   make speed   times the library against plain Rust
 # All that is built stands under target/.

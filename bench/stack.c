@@ -1,4 +1,4 @@
-/* How much stack each entry uses at most.
+/* How much stack each entry uses on tables made to use much.
  *
  *   stack KIB    status 1 where an entry uses more than so many KiB
  *

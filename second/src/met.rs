@@ -1,7 +1,8 @@
-//! Counts which rules of Figure 3 fired and which cases of trimming occurred, so that the tests
-//! can tell that none was missed. It takes no part in any answer.
+//! Counts how often each rule of Figure 3 fired and each case of trimming occurred while the second
+//! implementation answered a compared call, so that the tests can tell that none was missed. What
+//! it computes to make a test is not counted. It takes no part in any answer.
 
-use std::cell::RefCell;
+use std::cell::{Cell, RefCell};
 
 macro_rules! events {
     (rules: $($rule:ident)*; cases: $($case:ident)*;) => {
@@ -34,10 +35,21 @@ const EVENTS: usize = RULES.len() + CASES.len();
 
 thread_local! {
     static COUNTS: RefCell<[u64; EVENTS]> = const { RefCell::new([0; EVENTS]) };
+    static COUNTING: Cell<bool> = const { Cell::new(false) };
 }
 
 pub fn met(event: Event) {
-    COUNTS.with_borrow_mut(|counts| counts[event as usize] += 1);
+    if COUNTING.get() {
+        COUNTS.with_borrow_mut(|counts| counts[event as usize] += 1);
+    }
+}
+
+/// Counts what is met while `answer` runs.
+pub fn counting<T>(answer: impl FnOnce() -> T) -> T {
+    COUNTING.set(true);
+    let answer = answer();
+    COUNTING.set(false);
+    answer
 }
 
 pub fn count(event: Event) -> u64 {

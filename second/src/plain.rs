@@ -490,6 +490,8 @@ struct Lister<'a> {
     nodes: &'a Nodes,
     /// the labels of the pauses in each node
     pauses: Vec<u64>,
+    /// the signals that an emit or a present in each node names, those declared inside it left out
+    names: Vec<u32>,
     area: Vec<Packed>,
 }
 
@@ -599,8 +601,17 @@ impl Lister<'_> {
         Ok(())
     }
 
-    /// A local signal: both lists are made and joined.
-    fn local(&mut self, s: u32, mut list: impl FnMut(&mut Self, bool) -> Listed) -> Listed {
+    /// A local signal of a body: both lists are made and joined. Where the body does not name the
+    /// signal they are the same, and the second is enough.
+    fn local(
+        &mut self,
+        s: u32,
+        body: usize,
+        mut list: impl FnMut(&mut Self, bool) -> Listed,
+    ) -> Listed {
+        if self.names[body] & s == 0 {
+            return list(self, false);
+        }
         let base = self.area.len();
         list(self, true)?;
         let mut end = base;
@@ -630,7 +641,7 @@ impl Lister<'_> {
             4 => self.area.push(packed(0, number + 1, 0)),
             5 => {
                 let s = 1 << number;
-                return self.local(s, |lister, present| {
+                return self.local(s, i + 1, |lister, present| {
                     lister.start(i + 1, if present { e | s } else { e & !s })
                 });
             }
@@ -694,7 +705,7 @@ impl Lister<'_> {
             1 => self.area.push(0),
             5 => {
                 let s = 1 << number;
-                return self.local(s, |lister, present| {
+                return self.local(s, i + 1, |lister, present| {
                     lister.resume(i + 1, l0, if present { e | s } else { e & !s })
                 });
             }
@@ -729,21 +740,28 @@ pub struct Asked {
 pub fn list(table: &[u8], asked: Asked, lent: [&mut [u8]; 3]) -> Result<u32, u32> {
     let nodes = decode(table)?;
     let mut pauses = vec![0; nodes.n];
+    let mut names = vec![0_u32; nodes.n];
     let mut nested = vec![0_u8; nodes.n];
     for i in (0..nodes.n).rev() {
         let (node, second) = (nodes.node[i], usize::from(nodes.second[i]));
-        (pauses[i], nested[i]) = match kind(node) {
-            1 => (1 << operand(node), 0),
-            0..=4 => (0, 0),
-            5 => (pauses[i + 1], nested[i + 1] + 1),
-            6..=8 => (pauses[i + 1] | pauses[second], nested[i + 1].max(nested[second])),
-            _ => (pauses[i + 1], nested[i + 1]),
+        let number = operand(node);
+        (pauses[i], names[i], nested[i]) = match kind(node) {
+            1 => (1 << number, 0, 0),
+            3 => (0, 1 << number, 0),
+            0..=4 => (0, 0, 0),
+            5 => (pauses[i + 1], names[i + 1] & !(1 << number), nested[i + 1] + 1),
+            k @ 6..=8 => (
+                pauses[i + 1] | pauses[second],
+                names[i + 1] | names[second] | u32::from(k == 6) << (number & 31),
+                nested[i + 1].max(nested[second]),
+            ),
+            _ => (pauses[i + 1], names[i + 1], nested[i + 1]),
         };
     }
     if nested[0] > 12 {
         return Err(14);
     }
-    let mut lister = Lister { nodes: &nodes, pauses, area: Vec::with_capacity(256) };
+    let mut lister = Lister { nodes: &nodes, pauses, names, area: Vec::with_capacity(256) };
     let listed = match asked.mark {
         0 => lister.start(0, asked.assumed),
         _ => lister.resume(0, asked.labels, asked.assumed),

@@ -1,4 +1,4 @@
-//! Statements built for a purpose: every small tree, trees of many parts, chains, choices.
+//! Statements built for a purpose: all trees of a few nodes, trees of many parts, chains, choices.
 
 use crate::random::Random;
 use crate::statement::Statement;

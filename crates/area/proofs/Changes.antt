@@ -12,11 +12,11 @@ use Rattle.esterel.specs.Reactions.{Reaction}
 use Rattle.esterel.specs.Listing.{Rising, reaction, each, sorted, someEnds}
 use Rattle.area.specs.declared.Change.{Change}
 use Rattle.area.specs.declared.Change.the-variants.{Hide, Going, Caught}
-use Rattle.area.specs.Rules.{changed, change}
+use Rattle.area.specs.inner.Rules.{changed, change}
 use Rattle.esterel.proofs.Order.{sorted-of-rising}
-use Rattle.area.specs.Area.{packed, row, rows, cap, collect, Made, Put}
+use Rattle.area.specs.inner.Area.{packed, rowAt, rows, cap, collect, Made, Put}
 use Rattle.area.proofs.Members.{same-as, cap-some}
-use Rattle.area.proofs.Rows.{row-agree, rows-cons, rows-done, rows-whole, rows-length, packed-made}
+use Rattle.area.proofs.Rows.{row-agree, rows-cons, rows-done, rows-whole, rows-length, packed-word}
 use Rattle.area.proofs.Made.{made-as, Filling, filling-empty, filling-step, filling-end}
 
 pub through-below : (k : ℕ) → through k ≤ k
@@ -28,31 +28,35 @@ through-below (suc (suc (suc k))) = omega arith
 
 -- ---- what becomes of a reaction
 module _ (c : Change) (w l : ℕ) where
-  pub hide-none : (S : ℕ) → c ≡ Hide S → has (w / 256) S ≡ false → changed c (packed w l) ≡ []
-  unfolding changed packed
-  hide-none S e h = ap (λ (y : Change). changed y (packed w l)) e ∙ rw h
+  abbrev as-changed : (d : Change) → c ≡ d → changed c (packed w l) ≡ changed d (packed w l)
+  as-changed d e = ap (λ (y : Change). changed y (packed w l)) e
 
-  pub hide-one : (S : ℕ) → c ≡ Hide S → has (w / 256) S ≡ true → (o : ℕ) → o ≡ (w / 256) without S → changed c (packed w l) ≡ packed (o * 256 + w % 256) l ∷ []
+  pub hide-none : (S o : ℕ) → c ≡ Hide S → o ≡ w / 256 → has o S ≡ false → changed c (packed w l) ≡ []
   unfolding changed packed
-  hide-one S e h o f =
-      let g : changed (Hide S) (packed w l) ≡ reaction ((w / 256) without S) (w % 256) l ∷ [] = rw h in
-      ap (λ (y : Change). changed y (packed w l)) e ∙ g ∙ ap (λ (z : ℕ). reaction z (w % 256) l ∷ []) (sym f)
-      ∙ ap (λ (y : Reaction). y ∷ []) (sym (packed-made o (w % 256) l (omega arith)))
+  hide-none S o e f h = as-changed (Hide S) e ∙ rw (sym (ap (λ (z : ℕ). has z S) f) ∙ h)
+
+  pub hide-one : (S o rest k x : ℕ) → c ≡ Hide S → o ≡ w / 256 → has o S ≡ true → rest ≡ o without S → k ≡ w % 256 → x ≡ rest * 256 + k
+      → changed c (packed w l) ≡ packed x l ∷ []
+  unfolding changed packed
+  hide-one S o rest k x e f h g i j =
+      let u : changed (Hide S) (packed w l) ≡ reaction ((w / 256) without S) (w % 256) l ∷ [] = rw (sym (ap (λ (z : ℕ). has z S) f) ∙ h) in
+      let v : reaction ((w / 256) without S) (w % 256) l ≡ reaction rest k l = cc in
+      as-changed (Hide S) e ∙ u ∙ ap (λ (y : Reaction). y ∷ []) (v ∙ sym (packed-word x rest k l j (omega arith)))
 
   pub going-none : c ≡ Going → w % 256 ≡ 0 → changed c (packed w l) ≡ []
   unfolding changed packed
-  going-none e z = ap (λ (y : Change). changed y (packed w l)) e ∙ rw (eq-eqb (w % 256) 0 z)
+  going-none e z = as-changed Going e ∙ rw (eq-eqb (w % 256) 0 z)
 
   pub going-one : c ≡ Going → (w % 256 ≡ 0 → ⊥) → changed c (packed w l) ≡ packed w l ∷ []
   unfolding changed packed
-  going-one e z = ap (λ (y : Change). changed y (packed w l)) e ∙ rw (ne-eqb (w % 256) 0 z)
+  going-one e z = as-changed Going e ∙ rw (ne-eqb (w % 256) 0 z)
 
-  pub caught-one : c ≡ Caught → (k : ℕ) → k ≡ through (w % 256) → k < 256 → changed c (packed w l) ≡ packed (w / 256 * 256 + k) l ∷ []
+  pub caught-one : (o j k x : ℕ) → c ≡ Caught → o ≡ w / 256 → j ≡ w % 256 → k ≡ through j → x ≡ o * 256 + k → changed c (packed w l) ≡ packed x l ∷ []
   unfolding changed packed
-  caught-one e k f h =
-      ap (λ (y : Change). changed y (packed w l)) e
-      ∙ ap (λ (z : ℕ). reaction (w / 256) z l ∷ []) (sym f)
-      ∙ ap (λ (y : Reaction). y ∷ []) (sym (packed-made (w / 256) k l (omega arith)))
+  caught-one o j k x e f g h i =
+      let b = through-below j in
+      let v : reaction (w / 256) (through (w % 256)) l ≡ reaction o k l = cc in
+      as-changed Caught e ∙ ap (λ (y : Reaction). y ∷ []) (v ∙ sym (packed-word x o k l i (omega arith)))
 
 -- ---- one reaction, or none, put among m
 module _ (a : List ℕ) (base m : ℕ) (xs : List Reaction) where
@@ -93,17 +97,17 @@ altering-start c a base n h = record {
 }
 
 module _ (c : Change) (a₀ a : List ℕ) (base n m i : ℕ) (t : Altering c a₀ a base n m i) where
-  pub altering-step : (b : List ℕ) (r : ℕ) → i < n → n ≤ 64 → Put a b base m (collect (changed c (row a (base + 2 * i)) ++ rows a base m)) r → Altering c a₀ b base n r (i + 1)
+  pub altering-step : (b : List ℕ) (r : ℕ) → i < n → n ≤ 64 → Put a b base m (collect (changed c (rowAt a (base + 2 * i)) ++ rows a base m)) r → Altering c a₀ b base n r (i + 1)
   unfolding change each
   altering-step b r h k p =
       let d = t .behind in
       let q = p .count in
-      let x : row a (base + 2 * i) ≡ row a₀ (base + 2 * i) = row-agree a₀ a (base + 2 * i) (t .rest (base + 2 * i) (omega arith)) (t .rest (base + 2 * i + 1) (omega arith)) in
+      let x : rowAt a (base + 2 * i) ≡ rowAt a₀ (base + 2 * i) = row-agree a₀ a (base + 2 * i) (t .rest (base + 2 * i) (omega arith)) (t .rest (base + 2 * i + 1) (omega arith)) in
       record {
         within = omega arith;
         behind = omega arith;
         rest = λ j g. p .high j (omega arith) ∙ t .rest j (omega arith);
-        filling = filling-step (changed c (row a₀ (base + 2 * i))) (change c (rows a₀ (base + 2 * (i + 1)) (n - (i + 1)))) (change c (rows a₀ (base + 2 * i) (n - i))) (t .filling)
+        filling = filling-step (changed c (rowAt a₀ (base + 2 * i))) (change c (rows a₀ (base + 2 * (i + 1)) (n - (i + 1)))) (change c (rows a₀ (base + 2 * i) (n - i))) (t .filling)
             (same-as (ap (change c) (rows-cons a₀ base n i h)))
             (made-as (p .made) (ap (λ (z : Reaction). collect (changed c z ++ rows a base m)) x)) (omega arith);
       }

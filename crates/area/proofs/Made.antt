@@ -9,7 +9,7 @@ use native.Mathlib.Decide.{decLe}
 use lib.ListN.{length, getD}
 use Rattle.esterel.specs.Reactions.{Reaction}
 use Rattle.esterel.specs.Listing.{Listed, Rising, sorted}
-use Rattle.area.specs.Area.{packed, row, rows, cap, collect, Low, Made, Stored, Lowered}
+use Rattle.area.specs.inner.Area.{packed, rowAt, rows, cap, collect, Low, Made, Stored, MovedDown}
 use Rattle.area.proofs.Members.{Same, same, same-as, same-sym, same-trans, same-append, same-swap, same-assoc, same-sorted, sorted-equal, sorted-length, cap-some, cap-none}
 use Rattle.area.proofs.Rows.{rows-length}
 use Rattle.esterel.proofs.Order.{sorted-of-rising, append-left, append-right}
@@ -22,7 +22,7 @@ made-empty a base h = record { same = refl; low = λ i k. refl; fits = λ k. ome
 pub made-single : (a b : List ℕ) (q w l : ℕ) → q + 2 ≤ length a → Stored a b q w l → Made a b q 0 (some (packed w l ∷ [])) 1
 unfolding rows
 made-single a b q w l h s =
-    let x : row b q ≡ packed w l = ap (λ (y : ℕ). packed y (getD b (q + 1) 0)) (s .first) ∙ ap (packed w) (s .second) in
+    let x : rowAt b q ≡ packed w l = ap (λ (y : ℕ). packed y (getD b (q + 1) 0)) (s .first) ∙ ap (packed w) (s .second) in
     record {
       same = s .same;
       low = s .low;
@@ -136,7 +136,7 @@ filling-end {a₀} {a} {top} {n} {goal} need todo f e =
     }
 
 -- what was made at top, moved down to base; or there was too much
-pub made-lowered : {a₀ a b : List ℕ} {base need top n : ℕ} {v : Option (List Reaction)} → Made a₀ a top need v n → base ≤ top → n ≤ 64 → Lowered a b base top n → Made a₀ b base need v n
+pub made-lowered : {a₀ a b : List ℕ} {base need top n : ℕ} {v : Option (List Reaction)} → Made a₀ a top need v n → base ≤ top → n ≤ 64 → MovedDown a b base top n → Made a₀ b base need v n
 made-lowered {a₀} {a} {b} {base} {need} {top} {n} m h k l =
     let f = m .fits k in
     record {

@@ -10,7 +10,7 @@ use borrow.Author.Tests.{lt-ltb, le-ltb}
 use Rattle.esterel.specs.Reactions.{Reaction}
 use Rattle.esterel.specs.Listing.{Listed, sorted}
 use Rattle.esterel.proofs.Order.{append-left, append-right, append-cases, sorted-out, sorted-in, sorted-rising, sorted-same, rising-shorter}
-use Rattle.area.specs.Area.{cap, collect}
+use Rattle.area.specs.inner.Area.{cap, collect}
 
 -- ---- members
 -- every member of ts is one of us

@@ -8,7 +8,7 @@ use lib.ListN.{length}
 use Rattle.esterel.specs.Reactions.{Reaction}
 use Rattle.esterel.specs.Listing.{Rising}
 use Rattle.esterel.proofs.Order.{sorted-of-rising}
-use Rattle.area.specs.Area.{row, rows, cap, collect, Made, Lowered, Beside, Merged}
+use Rattle.area.specs.inner.Area.{rowAt, rows, cap, collect, Made, MovedDown, Beside, Merged}
 use Rattle.area.proofs.Members.{Same, same, same-as, same-sym, same-trans, same-append, same-swap, same-assoc, cap-some}
 use Rattle.area.proofs.Rows.{row-agree, rows-cons, rows-done, rows-whole, rows-none, rows-length}
 use Rattle.area.proofs.Made.{made-as, made-need, made-there, made-cramped, made-down, made-lowered, Filling, filling-empty, filling-step, filling-over, filling-end}
@@ -40,18 +40,18 @@ module _ (a₀ : List ℕ) (base n₁ n₂ : ℕ) where
 
   module _ (a : List ℕ) (n i j : ℕ) (f : Filling a₀ a top n (firsts i ++ seconds j) goal) where
     -- the reaction at q, which is r, was put at top, and ys is left
-    module _ (q : ℕ) (low : q + 2 ≤ top) (ys : List Reaction) (e : Same (firsts i ++ seconds j) ((row a₀ q ∷ []) ++ ys)) (b : List ℕ) (r : ℕ) (p : Made a b top 0 (collect (row a q ∷ rows a top n)) r) where
-      next : Made a b top 0 (collect ((row a₀ q ∷ []) ++ rows a top n)) r
+    module _ (q : ℕ) (low : q + 2 ≤ top) (ys : List Reaction) (e : Same (firsts i ++ seconds j) ((rowAt a₀ q ∷ []) ++ ys)) (b : List ℕ) (r : ℕ) (p : Made a b top 0 (collect (rowAt a q ∷ rows a top n)) r) where
+      next : Made a b top 0 (collect ((rowAt a₀ q ∷ []) ++ rows a top n)) r
       next = made-as p (ap (λ (z : Reaction). collect (z ∷ rows a top n)) (row-agree a₀ a q (f .low q (omega arith)) (f .low (q + 1) (omega arith))))
 
       carried-over : 64 < r → Made a₀ b base 0 (collect goal) r
-      carried-over k = made-down (filling-over (row a₀ q ∷ []) ys (firsts i ++ seconds j) f e next 0 k) (omega arith) k
+      carried-over k = made-down (filling-over (rowAt a₀ q ∷ []) ys (firsts i ++ seconds j) f e next 0 k) (omega arith) k
 
       carried : r ≤ 64 → Filling a₀ b top r ys goal
-      carried k = filling-step (row a₀ q ∷ []) ys (firsts i ++ seconds j) f e next k
+      carried k = filling-step (rowAt a₀ q ∷ []) ys (firsts i ++ seconds j) f e next k
 
-    module _ (h : i < n₁) (b : List ℕ) (r : ℕ) (p : Made a b top 0 (collect (row a (base + 2 * i) ∷ rows a top n)) r) where
-      taken : Same (firsts i ++ seconds j) ((row a₀ (base + 2 * i) ∷ []) ++ (firsts (i + 1) ++ seconds j))
+    module _ (h : i < n₁) (b : List ℕ) (r : ℕ) (p : Made a b top 0 (collect (rowAt a (base + 2 * i) ∷ rows a top n)) r) where
+      taken : Same (firsts i ++ seconds j) ((rowAt a₀ (base + 2 * i) ∷ []) ++ (firsts (i + 1) ++ seconds j))
       taken = same-as (ap (λ (z : List Reaction). z ++ seconds j) (rows-cons a₀ base n₁ i h))
 
       pub first-over : 64 < r → Made a₀ b base 0 (collect goal) r
@@ -60,9 +60,9 @@ module _ (a₀ : List ℕ) (base n₁ n₂ : ℕ) where
       pub first-step : r ≤ 64 → Filling a₀ b top r (firsts (i + 1) ++ seconds j) goal
       first-step = carried (base + 2 * i) (omega arith) (firsts (i + 1) ++ seconds j) taken b r p
 
-    module _ (h : j < n₂) (b : List ℕ) (r : ℕ) (p : Made a b top 0 (collect (row a (base + 2 * n₁ + 2 * j) ∷ rows a top n)) r) where
-      taken-2 : Same (firsts i ++ seconds j) ((row a₀ (base + 2 * n₁ + 2 * j) ∷ []) ++ (firsts i ++ seconds (j + 1)))
-      taken-2 = same-trans (same-as (ap (λ (z : List Reaction). firsts i ++ z) (rows-cons a₀ (base + 2 * n₁) n₂ j h))) (middle (row a₀ (base + 2 * n₁ + 2 * j)) (firsts i) (seconds (j + 1)))
+    module _ (h : j < n₂) (b : List ℕ) (r : ℕ) (p : Made a b top 0 (collect (rowAt a (base + 2 * n₁ + 2 * j) ∷ rows a top n)) r) where
+      taken-2 : Same (firsts i ++ seconds j) ((rowAt a₀ (base + 2 * n₁ + 2 * j) ∷ []) ++ (firsts i ++ seconds (j + 1)))
+      taken-2 = same-trans (same-as (ap (λ (z : List Reaction). firsts i ++ z) (rows-cons a₀ (base + 2 * n₁) n₂ j h))) (middle (rowAt a₀ (base + 2 * n₁ + 2 * j)) (firsts i) (seconds (j + 1)))
 
       pub second-over : 64 < r → Made a₀ b base 0 (collect goal) r
       second-over = carried-over (base + 2 * n₁ + 2 * j) (omega arith) (firsts i ++ seconds (j + 1)) taken-2 b r p
@@ -70,7 +70,7 @@ module _ (a₀ : List ℕ) (base n₁ n₂ : ℕ) where
       pub second-step : r ≤ 64 → Filling a₀ b top r (firsts i ++ seconds (j + 1)) goal
       second-step = carried (base + 2 * n₁ + 2 * j) (omega arith) (firsts i ++ seconds (j + 1)) taken-2 b r p
 
-    pub merge-end : n₁ ≤ i → n₂ ≤ j → (b : List ℕ) → Lowered a b base top n → Made a₀ b base 0 (collect goal) n
+    pub merge-end : n₁ ≤ i → n₂ ≤ j → (b : List ℕ) → MovedDown a b base top n → Made a₀ b base 0 (collect goal) n
     merge-end h k b l =
         made-lowered (filling-end 0 (firsts i ++ seconds j) f (ap (λ (z : List Reaction). z ++ seconds j) (rows-done a₀ base n₁ i h) ∙ rows-done a₀ (base + 2 * n₁) n₂ j k)) (omega arith) (f .small) l
 

@@ -9,17 +9,17 @@ use lib.ListN.{length, getD, set, length-set}
 use lib.Seq.{getD-set-same, getD-set-other}
 use Rattle.esterel.specs.Reactions.{Reaction}
 use Rattle.esterel.specs.Listing.{before}
-use Rattle.area.specs.Area.{row, rows, Stored, Lowered}
+use Rattle.area.specs.inner.Area.{rowAt, rows, Stored, MovedDown}
 use Rattle.area.proofs.Rows.{rows-move}
 
 -- ---- the search from the end
 module _ (x : Reaction) (a : List ℕ) (base n j : ℕ) (h : 0 < j) where
-  pub place-step : ((i : ℕ) → j ≤ i → i < n → before x (row a (base + 2 * i)) ≡ true) → before x (row a (base + 2 * (j - 1))) ≡ true
-      → (i : ℕ) → j - 1 ≤ i → i < n → before x (row a (base + 2 * i)) ≡ true
+  pub place-step : ((i : ℕ) → j ≤ i → i < n → before x (rowAt a (base + 2 * i)) ≡ true) → before x (rowAt a (base + 2 * (j - 1))) ≡ true
+      → (i : ℕ) → j - 1 ≤ i → i < n → before x (rowAt a (base + 2 * i)) ≡ true
   place-step f g i b d = go (decLt i j)
     where
-      go : Dec (i < j) → before x (row a (base + 2 * i)) ≡ true
-      go (yes y) = let e : i ≡ j - 1 = omega arith in ap (λ (z : ℕ). before x (row a (base + 2 * z))) e ∙ g
+      go : Dec (i < j) → before x (rowAt a (base + 2 * i)) ≡ true
+      go (yes y) = let e : i ≡ j - 1 = omega arith in ap (λ (z : ℕ). before x (rowAt a (base + 2 * z))) e ∙ g
       go (no y) = f i (omega arith) d
 
 -- what holds of the last before j
@@ -85,7 +85,7 @@ lowering-step a₀ a t f m j o h k n =
         let u : f + j ≡ i + (f - t) = omega arith in
         ap (λ (x : ℕ). getD (set a (t + j) (getD a (f + j) 0)) x 0) z ∙ getD-set-same a (t + j) (getD a (f + j) 0) 0 (omega arith) ∙ o .high (f + j) (omega arith) ∙ ap (λ (x : ℕ). getD a₀ x 0) u
 
-pub lowering-end : (a₀ a : List ℕ) (t f n j : ℕ) → Lowering a₀ a t f (2 * n) j → 2 * n ≤ j → t ≤ f → Lowered a₀ a t f n
+pub lowering-end : (a₀ a : List ℕ) (t f n j : ℕ) → Lowering a₀ a t f (2 * n) j → 2 * n ≤ j → t ≤ f → MovedDown a₀ a t f n
 lowering-end a₀ a t f n j o h k =
     let g = o .to in
     let e : t + (f - t) ≡ f = omega arith in

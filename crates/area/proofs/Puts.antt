@@ -10,13 +10,13 @@ use Rattle.sets.proofs.Booleans.{clash}
 use Rattle.esterel.specs.Reactions.{Reaction}
 use Rattle.esterel.specs.Listing.{Listed, Rising, before, insert, sorted}
 use Rattle.esterel.proofs.Order.{sorted-of-rising, before-is, neither, insert-rising}
-use Rattle.area.specs.Area.{packed, row, rows, cap, collect, Low, Put, Found, Opened, Stored}
+use Rattle.area.specs.inner.Area.{packed, rowAt, rows, cap, collect, Low, Put, Searched, MovedUp, Stored}
 use Rattle.area.proofs.Members.{same-again, collect-same, cap-some, cap-none}
 use Rattle.area.proofs.Rows.{rows-move, rows-agree, rows-split, rows-length, rows-mem, rows-cons, rows-whole, insert-rows}
 
 -- p is the place that the search found for (w, l); t says whether it is there
-module _ (a : List ℕ) (base n w l p : ℕ) (small : n ≤ 64) (fits : base + 2 * n + 2 ≤ length a) (rise : Rising (rows a base n)) (found : Found a base n (packed w l) p)
-    (t : Bool) (none-there : p ≡ 0 → t ≡ false) (last : (j : ℕ) → p ≡ j + 1 → before (row a (base + 2 * j)) (packed w l) ≡ not t) where
+module _ (a : List ℕ) (base n w l p : ℕ) (small : n ≤ 64) (fits : base + 2 * n + 2 ≤ length a) (rise : Rising (rows a base n)) (found : Searched a base n (packed w l) p)
+    (t : Bool) (none-there : p ≡ 0 → t ≡ false) (last : (j : ℕ) → p ≡ j + 1 → before (rowAt a (base + 2 * j)) (packed w l) ≡ not t) where
   abbrev wanted : Option (List Reaction)
   wanted = collect (packed w l ∷ rows a base n)
 
@@ -37,7 +37,7 @@ module _ (a : List ℕ) (base n w l p : ℕ) (small : n ≤ 64) (fits : base + 2
       let z : 0 < p = positive p refl in
       let j : p ≡ p - 1 + 1 = omega arith in
       let k = found .within in
-      let r : Reaction = row a (base + 2 * (p - 1)) in
+      let r : Reaction = rowAt a (base + 2 * (p - 1)) in
       let s : packed w l ≡ r = neither (packed w l) r (λ b. clash (before-is (packed w l) r b) (found .last (p - 1) j)) (λ b. clash (before-is r (packed w l) b) (last (p - 1) j ∙ ap not e)) in
       let h = rows-length a base n in
       let m : Listed (packed w l) (rows a base n) = subst (λ (x : Reaction). Listed x (rows a base n)) (sym s) (rows-mem a base n (p - 1) (omega arith)) in
@@ -66,14 +66,14 @@ module _ (a : List ℕ) (base n w l p : ℕ) (small : n ≤ 64) (fits : base + 2
         count = omega arith;
       }
 
-  module _ (e : t ≡ false) (h : n ≡ 64 → ⊥) (b c : List ℕ) (o : Opened a b (base + 2 * p) (base + 2 * n)) (s : Stored b c (base + 2 * p) w l) where
+  module _ (e : t ≡ false) (h : n ≡ 64 → ⊥) (b c : List ℕ) (o : MovedUp a b (base + 2 * p) (base + 2 * n)) (s : Stored b c (base + 2 * p) w l) where
     low : Low (base + 2 * p) a c
     low i d = s .low i d ∙ o .low i d
 
     all : rows c base (n + 1) ≡ insert (packed w l) (rows a base n)
     all =
         let m = found .within in
-        let x : row c (base + 2 * p) ≡ packed w l = ap (λ (y : ℕ). packed y (getD c (base + 2 * p + 1) 0)) (s .first) ∙ ap (packed w) (s .second) in
+        let x : rowAt c (base + 2 * p) ≡ packed w l = ap (λ (y : ℕ). packed y (getD c (base + 2 * p + 1) 0)) (s .first) ∙ ap (packed w) (s .second) in
         let front : rows c base p ≡ rows a base p = rows-agree a c base p (λ i d f. low i (omega arith)) in
         let back : rows c (base + 2 * p + 2) (n - p) ≡ rows a (base + 2 * p) (n - p) =
         rows-agree b c (base + 2 * p + 2) (n - p) (λ i d f. s .high i d) ∙ sym (rows-move 2 b a (base + 2 * p) (n - p) (λ i d f. sym (o .moved i d (omega arith)))) in
@@ -81,13 +81,13 @@ module _ (a : List ℕ) (base n w l p : ℕ) (small : n ≤ 64) (fits : base + 2
         let i : base + 2 * p + 2 * (0 + 1) ≡ base + 2 * p + 2 = omega arith in
         let u : n - p + 1 - (0 + 1) ≡ n - p = omega arith in
         let z : base + 2 * p + 2 * 0 ≡ base + 2 * p = omega arith in
-        let head : rows c (base + 2 * p) (n - p + 1) ≡ row c (base + 2 * p) ∷ rows c (base + 2 * p + 2) (n - p) =
+        let head : rows c (base + 2 * p) (n - p + 1) ≡ rowAt c (base + 2 * p) ∷ rows c (base + 2 * p + 2) (n - p) =
         sym (rows-whole c (base + 2 * p) (n - p + 1)) ∙ rows-cons c (base + 2 * p) (n - p + 1) 0 (omega arith)
-        ∙ ap (λ (y : ℕ). row c y ∷ rows c (base + 2 * p + 2 * (0 + 1)) (n - p + 1 - (0 + 1))) z
-        ∙ ap (λ (y : ℕ). row c (base + 2 * p) ∷ rows c y (n - p + 1 - (0 + 1))) i
-        ∙ ap (λ (y : ℕ). row c (base + 2 * p) ∷ rows c (base + 2 * p + 2) y) u in
+        ∙ ap (λ (y : ℕ). rowAt c y ∷ rows c (base + 2 * p + 2 * (0 + 1)) (n - p + 1 - (0 + 1))) z
+        ∙ ap (λ (y : ℕ). rowAt c (base + 2 * p) ∷ rows c y (n - p + 1 - (0 + 1))) i
+        ∙ ap (λ (y : ℕ). rowAt c (base + 2 * p) ∷ rows c (base + 2 * p + 2) y) u in
         ap (rows c base) q ∙ rows-split c base p (n - p + 1) ∙ ap (λ (y : List Reaction). rows c base p ++ y) head
-        ∙ ap (λ (y : List Reaction). y ++ (row c (base + 2 * p) ∷ rows c (base + 2 * p + 2) (n - p))) front
+        ∙ ap (λ (y : List Reaction). y ++ (rowAt c (base + 2 * p) ∷ rows c (base + 2 * p + 2) (n - p))) front
         ∙ ap (λ (y : Reaction). rows a base p ++ (y ∷ rows c (base + 2 * p + 2) (n - p))) x
         ∙ ap (λ (y : List Reaction). rows a base p ++ (packed w l ∷ y)) back
         ∙ sym (opened e)

@@ -1,18 +1,29 @@
-// Rising lists of reactions, one above the other in a lent area of words. A reaction is two words: O * 256 + k, and L.
-// Whoever makes a list returns how many reactions it has; 65 where there are over 64, 66 where the area is too small.
+// Rising lists of reactions, one above the other in a lent area of words. A reaction is two words, one of O and k, and L.
+// Whoever makes a list returns how many reactions it has, or one of the numbers above MOST below.
 use esterel::Code;
 ghost use mathlib.Core.Path.{_≡_};
 ghost use mathlib.Core.Bool.{true, false, not};
 ghost use mathlib.Core.List.{[], _∷_, _++_};
 ghost use mathlib.Core.Option.{some};
-ghost use Prim.Native.Nat.{ℕ, _+_, _*_, _%_, _≤_, _<_, max};
+ghost use Prim.Native.Nat.{ℕ, _+_, _*_, _/_, _%_, _^_, _≤_, _<_, max};
 ghost use lib.ListN.{length};
-ghost use Rattle.sets.specs.Set.{_without_};
-ghost use Rattle.esterel.specs.Codes.{through};
 ghost use Rattle.esterel.specs.Reactions.{reachedTogether};
 ghost use Rattle.esterel.specs.Listing.{Rising, before, someEnds};
-ghost use Rattle.area.specs.Rules.{changed, joined, joinedAll, pairs, product as productOf};
-ghost use Rattle.area.specs.Area.{packed, row, rows, collect, Made, Put, Found, Opened, Stored, Lowered, Altered, Beside, Merged};
+ghost use Rattle.area.specs.inner.Rules.{changed, joined, joinedAll, pairs, product as productOf};
+ghost use Rattle.area.specs.inner.Area.{packed, rowAt, rows, collect, Made, Put, Searched, MovedUp, Stored, MovedDown, Altered, Beside, Merged};
+
+// The most reactions of a list.
+pub const MOST: usize = 64;
+
+// Returned where there is no list: it would have over MOST reactions; the area is too small for it; it was refused.
+pub const OVER: usize = 65;
+
+pub const CRAMPED: usize = 66;
+
+pub const REFUSED: usize = 67;
+
+// The words of MOST reactions and one more.
+const SPARE: usize = 2 * MOST + 2;
 
 // What a statement does with each reaction of its body: a local signal that is present, a loop, a try.
 pub enum Change {
@@ -25,6 +36,34 @@ pub enum Change {
 pub enum Pairing {
     Sequence,
     Parallel,
+}
+
+// The first word of a reaction, and its two parts. Only these three know how it is put together: O * 256 + k.
+pub fn word_of(o: u64, code: Code) -> u64
+    requires { ⌜ (o < 2 ^ 56) × (code .0 < 256) ⌝ }
+    ensures { λ r. ⌜ r ≡ o * 256 + code .0 ⌝ }
+{
+    o * 256 + code.0 as u64
+}
+
+pub fn emitted_in(w: u64) -> u64
+    ensures { λ r. ⌜ r ≡ w / 256 ⌝ }
+{
+    w / 256
+}
+
+pub fn code_in(w: u64) -> Code
+    ensures { λ r. ⌜ r .0 ≡ w % 256 ⌝ }
+{
+    Code((w % 256) as u16)
+}
+
+// Whether the reaction of a word ends.
+fn ends(w: u64) -> bool
+    ensures { λ r. ⌜ (r ≡ true → w % 256 ≡ 0) × (r ≡ false → w % 256 ≡ 0 → ⊥) ⌝ }
+{
+    let code = code_in(w);
+    code.0 == esterel::ENDED
 }
 
 fn less(w: u64, l: u64, v: u64, m: u64) -> bool
@@ -42,7 +81,7 @@ fn less(w: u64, l: u64, v: u64, m: u64) -> bool
 // How many of the n reactions at base are not above (w, l), searched from the end.
 fn place(area: &[u64], base: usize, n: usize, w: u64, l: u64) -> usize
     requires { ⌜ base + 2 * n ≤ length (now area) ⌝ }
-    ensures { λ r. ⌜ Found (now (area .entry)) base n (packed w l) r ⌝ }
+    ensures { λ r. ⌜ Searched (now (area .entry)) base n (packed w l) r ⌝ }
 {
     let mut j = n;
     while 0 < j {
@@ -59,7 +98,7 @@ fn place(area: &[u64], base: usize, n: usize, w: u64, l: u64) -> usize
 // Whether the last of the p reactions at base, none of them above (w, l), is (w, l).
 fn there(area: &[u64], base: usize, p: usize, w: u64, l: u64) -> bool
     requires { ⌜ base + 2 * p ≤ length (now area) ⌝ }
-    ensures { λ r. ⌜ (p ≡ 0 → r ≡ false) × ((j : ℕ) → p ≡ j + 1 → before (row (now (area .entry)) (base + 2 * j)) (packed w l) ≡ not r) ⌝ }
+    ensures { λ r. ⌜ (p ≡ 0 → r ≡ false) × ((j : ℕ) → p ≡ j + 1 → before (rowAt (now (area .entry)) (base + 2 * j)) (packed w l) ≡ not r) ⌝ }
 {
     if p == 0 {
         return false;
@@ -71,7 +110,7 @@ fn there(area: &[u64], base: usize, p: usize, w: u64, l: u64) -> bool
 // The words f..t moved two places up.
 fn open(area: &mut [u64], f: usize, t: usize)
     requires { ⌜ (f ≤ t) × (t + 2 ≤ length (now area)) ⌝ }
-    ensures { λ _. ⌜ Opened (now (area .entry)) (now (area .exit)) f t ⌝ }
+    ensures { λ _. ⌜ MovedUp (now (area .entry)) (now (area .exit)) f t ⌝ }
 {
     let mut j = t;
     while f < j {
@@ -92,7 +131,7 @@ fn store(area: &mut [u64], q: usize, w: u64, l: u64)
 // The n reactions at f copied down to t.
 fn lower(area: &mut [u64], t: usize, f: usize, n: usize)
     requires { ⌜ (t ≤ f) × (f + 2 * n ≤ length (now area)) ⌝ }
-    ensures { λ _. ⌜ Lowered (now (area .entry)) (now (area .exit)) t f n ⌝ }
+    ensures { λ _. ⌜ MovedDown (now (area .entry)) (now (area .exit)) t f n ⌝ }
 {
     let m = 2 * n;
     let mut j = 0;
@@ -111,8 +150,8 @@ fn put(area: &mut [u64], base: usize, n: usize, w: u64, l: u64) -> usize
     if there(area, base, p, w, l) {
         return n;
     }
-    if n == 64 {
-        return 65;
+    if n == MOST {
+        return OVER;
     }
     let f = base + 2 * p;
     open(area, f, base + 2 * n);
@@ -134,17 +173,10 @@ pub fn room(area: &[u64], base: usize, n: usize) -> bool
     requires { ⌜ base ≤ length (now area) ⌝ }
     ensures { λ r. ⌜ (r ≡ true → (n ≤ 64) × (base + 2 * n + 2 ≤ length (now (area .entry)))) × (r ≡ false → n ≤ 64 → length (now (area .entry)) < base + 2 * n + 2) ⌝ }
 {
-    if 64 < n {
+    if MOST < n {
         return false;
     }
     2 * n + 2 <= area.len() - base
-}
-
-// What is returned where there is not.
-pub fn stopped(n: usize) -> usize
-    ensures { λ r. ⌜ (64 < n → r ≡ n) × (n ≤ 64 → r ≡ 66) ⌝ }
-{
-    if 64 < n { n } else { 66 }
 }
 
 // What becomes of (w, l), put among the m reactions at base.
@@ -154,33 +186,24 @@ fn alter_one(area: &mut [u64], base: usize, m: usize, change: Change, w: u64, l:
 {
     match change {
         Change::Hide(signal) => {
-            let o = w / 256;
+            let o = emitted_in(w);
             if !sets::contains(o, signal) {
                 return m;
             }
             let rest = sets::without(o, signal);
-            put(area, base, m, rest * 256 + w % 256, l)
+            put(area, base, m, word_of(rest, code_in(w)), l)
         }
         Change::Going => {
-            if w % 256 == 0 {
+            if ends(w) {
                 return m;
             }
             put(area, base, m, w, l)
         }
         Change::Caught => {
-            let k = caught(w % 256);
-            put(area, base, m, w / 256 * 256 + k, l)
+            let code = esterel::through_try(code_in(w));
+            put(area, base, m, word_of(emitted_in(w), code), l)
         }
     }
-}
-
-// The code of a try whose body has the code k.
-fn caught(k: u64) -> u64
-    requires { ⌜ k < 256 ⌝ }
-    ensures { λ r. ⌜ (r ≡ through k) × (r < 256) ⌝ }
-{
-    let code = esterel::through_try(Code(k as u16));
-    code.0 as u64
 }
 
 // Each of the n reactions at base changed, in place; n itself where it says that there is no list.
@@ -188,7 +211,7 @@ pub fn alter(area: &mut [u64], base: usize, n: usize, change: Change) -> usize
     requires { ⌜ (n ≤ 64 → base + 2 * n ≤ length (now area)) ⌝ }
     ensures { λ r. ⌜ Altered change (now (area .entry)) (now (area .exit)) base n r ⌝ }
 {
-    if 64 < n {
+    if MOST < n {
         return n;
     }
     let mut m = 0;
@@ -210,7 +233,7 @@ pub fn some_ends(area: &[u64], base: usize, n: usize) -> bool
 {
     let mut i = 0;
     while i < n {
-        if area[base + 2 * i] % 256 == 0 {
+        if ends(area[base + 2 * i]) {
             return true;
         }
         i += 1;
@@ -224,17 +247,18 @@ pub struct Words {
     pub l: u64,
 }
 
-fn larger(a: u64, b: u64) -> u64
-    ensures { λ r. ⌜ r ≡ max a b ⌝ }
+// The code of two parts in parallel.
+fn larger_code(a: Code, b: Code) -> Code
+    ensures { λ r. ⌜ r .0 ≡ max (a .0) (b .0) ⌝ }
 {
-    if a < b { b } else { a }
+    Code(esterel::larger(a.0, b.0))
 }
 
-// The labels that two parts reach with the code k.
-fn reached(k: u64, a: u64, b: u64) -> u64
-    ensures { λ r. ⌜ r ≡ reachedTogether k a b ⌝ }
+// The labels that two parts reach with the code.
+fn reached(code: Code, a: u64, b: u64) -> u64
+    ensures { λ r. ⌜ r ≡ reachedTogether (code .0) a b ⌝ }
 {
-    if k == 1 { a | b } else { 0 }
+    if code.0 == esterel::PAUSED { a | b } else { 0 }
 }
 
 // Two reactions of one instant.
@@ -243,14 +267,14 @@ fn join(how: Pairing, w: u64, l: u64, v: u64, m: u64) -> Words
 {
     match how {
         Pairing::Sequence => Words {
-            w: (w | v) / 256 * 256 + v % 256,
+            w: word_of(emitted_in(w | v), code_in(v)),
             l: m,
         },
         Pairing::Parallel => {
-            let k = larger(w % 256, v % 256);
-            let both = reached(k, l, m);
+            let code = larger_code(code_in(w), code_in(v));
+            let both = reached(code, l, m);
             Words {
-                w: (w | v) / 256 * 256 + k,
+                w: word_of(emitted_in(w | v), code),
                 l: both,
             }
         }
@@ -279,7 +303,7 @@ fn add_joined(
         let m = area[q + 1];
         let x = join(how, w, l, v, m);
         count = put(area, top, count, x.w, x.l);
-        if 64 < count {
+        if MOST < count {
             return count;
         }
         j += 1;
@@ -303,7 +327,7 @@ fn add_pairs(
 {
     match how {
         Pairing::Sequence => {
-            if w % 256 == 0 {
+            if ends(w) {
                 add_joined(area, mid, n2, top, n, how, w, l)
             } else {
                 put(area, top, n, w, l)
@@ -319,7 +343,7 @@ fn meet(how: Pairing, w: u64, l: u64, v: u64, m: u64) -> Words
 {
     match how {
         Pairing::Sequence => {
-            if w % 256 == 0 {
+            if ends(w) {
                 return join(how, w, l, v, m);
             }
             Words { w, l }
@@ -355,7 +379,7 @@ fn product_of_many(area: &mut [u64], base: usize, n1: usize, n2: usize, how: Pai
         let w = area[q];
         let l = area[q + 1];
         n = add_pairs(area, mid, n2, top, n, how, w, l);
-        if 64 < n {
+        if MOST < n {
             return n;
         }
         i += 1;
@@ -369,7 +393,7 @@ pub fn product(area: &mut [u64], base: usize, n1: usize, n2: usize, how: Pairing
     requires { ⌜ Beside (now area) base n1 n2 ⌝ }
     ensures { λ r. ⌜ Merged (productOf how) (now (area .entry)) (now (area .exit)) base n1 n2 r ⌝ }
 {
-    if 64 < n2 {
+    if MOST < n2 {
         return n2;
     }
     if n1 == 1 {
@@ -377,8 +401,8 @@ pub fn product(area: &mut [u64], base: usize, n1: usize, n2: usize, how: Pairing
             return product_of_one(area, base, how);
         }
     }
-    if area.len() - base < 2 * n1 + 2 * n2 + 130 {
-        return 66;
+    if area.len() - base < 2 * n1 + 2 * n2 + SPARE {
+        return CRAMPED;
     }
     product_of_many(area, base, n1, n2, how)
 }
@@ -402,7 +426,7 @@ fn first(area: &[u64], base: usize, i: usize, n1: usize, mid: usize, j: usize, n
 // The reaction at p put among the n at top.
 fn carry(area: &mut [u64], p: usize, top: usize, n: usize) -> usize
     requires { ⌜ (n ≤ 64) × (p + 2 ≤ top) × (top + 130 ≤ length (now area)) × Rising (rows (now area) top n) ⌝ }
-    ensures { λ r. ⌜ Made (now (area .entry)) (now (area .exit)) top 0 (collect (row (now (area .entry)) p ∷ rows (now (area .entry)) top n)) r ⌝ }
+    ensures { λ r. ⌜ Made (now (area .entry)) (now (area .exit)) top 0 (collect (rowAt (now (area .entry)) p ∷ rows (now (area .entry)) top n)) r ⌝ }
 {
     let w = area[p];
     let l = area[p + 1];
@@ -423,14 +447,14 @@ fn merge_both(area: &mut [u64], base: usize, n1: usize, n2: usize) -> usize
     while i + j < all {
         if first(area, base, i, n1, mid, j, n2) {
             n = carry(area, base + 2 * i, top, n);
-            if 64 < n {
+            if MOST < n {
                 return n;
             }
             i += 1;
             continue;
         }
         n = carry(area, mid + 2 * j, top, n);
-        if 64 < n {
+        if MOST < n {
             return n;
         }
         j += 1;
@@ -444,7 +468,7 @@ pub fn merge(area: &mut [u64], base: usize, n1: usize, n2: usize) -> usize
     requires { ⌜ Beside (now area) base n1 n2 ⌝ }
     ensures { λ r. ⌜ Merged _++_ (now (area .entry)) (now (area .exit)) base n1 n2 r ⌝ }
 {
-    if 64 < n2 {
+    if MOST < n2 {
         return n2;
     }
     if n1 == 0 {
@@ -453,8 +477,8 @@ pub fn merge(area: &mut [u64], base: usize, n1: usize, n2: usize) -> usize
     if n2 == 0 {
         return n1;
     }
-    if area.len() - base < 2 * n1 + 2 * n2 + 130 {
-        return 66;
+    if area.len() - base < 2 * n1 + 2 * n2 + SPARE {
+        return CRAMPED;
     }
     merge_both(area, base, n1, n2)
 }

@@ -1,2 +1,5 @@
+pub mod Groups
 pub mod Demand
 pub mod Outside
+pub mod Entered
+pub mod Refusals

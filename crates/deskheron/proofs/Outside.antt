@@ -18,5 +18,7 @@ unfolding unreached listing list before insert sorted each hide follow pair toge
 ends-outside = refl
 
 pub trimmed-outside : listing (trimmed unreached) (resumed (only 1)) 0 ≡ []
-unfolding unreached listing list before insert sorted each hide follow pair together going caught has only _union_ _intersect_ _minus_ through reachedTogether pauses pauseCount codeOf labels none justEnded justAt justCode join minusZero throughTry hasLow notBelow noLowerThan maximum s d nextR reachFrom reach isNothing joinParts names endsAt shiftLevel shiftExits canEnd trimLoop trimSignal trimPresent trimTry trim trimmed
+unfolding unreached listing list before insert sorted each hide follow pair together going caught has only _union_ _intersect_ _minus_ through
+    reachedTogether pauses pauseCount codeOf labels none justEnded justAt justCode join minusZero throughTry hasLow notBelow noLowerThan maximum s d
+    nextR reachFrom reach isNothing joinParts names endsAt shiftLevel shiftExits canEnd trimLoop trimSignal trimPresent trimTry trim trimmed
 trimmed-outside = refl

@@ -2,22 +2,46 @@
 -- about bytes, over the definitions that the contracts of check, trim and list cite; it is proved in proofs/Demand.
 use mathlib.Core.Path.{_≡_}
 use mathlib.Core.Logic.{_↔_, _≢_}
-use mathlib.Core.List.{List, map}
-use Prim.Native.Nat.{ℕ, _<_}
-use lib.ListN.{length, take, getD}
+use mathlib.Core.List.{List, [], _∷_, map}
+use Prim.Native.Nat.{ℕ, _*_, _/_, _<_}
+use lib.ListN.{length, take, drop, getD}
 use Rattle.esterel.specs.Statement.{Statement, size}
 use Rattle.esterel.specs.Trimming.{trimmed}
 use Rattle.esterel.specs.Reactions.{State, start, resumed, Reaction, Reacts}
 use Rattle.esterel.specs.Runs.{Step, Run, StateOf}
 use Rattle.esterel.specs.Listing.{listing, reaction}
+use Rattle.table.specs.Outcomes.{values}
+use Rattle.table.specs.Bits.{number, bitsOf}
 use Rattle.table.specs.Reading.{tableOf, holds}
 use Rattle.table.specs.Writing.{write}
 use Rattle.trim.specs.Answers.{trimOf, bufferOf}
-use Rattle.trim.specs.declared.Written.{Written}
-use Rattle.trim.specs.declared.Trimmed.the-variants.{Accepted}
-use Rattle.list.specs.Answers.{Found, listOf, answerOf, written}
-use Rattle.list.specs.Buffers.{front, emittedOf, codesOf, reachedOf}
-use Rattle.list.specs.declared.Answer.the-variants.{Listed}
+use Rattle.list.specs.Answers.{Listing, listOf, listingOutcome, written}
+use Rattle.list.specs.Buffers.{emittedIn, codeIn, reachedIn, front, spread}
+
+-- ---- The result buffers of list
+
+-- they hold a number at each place; or, for C, bytes, "most significant first, 4 for each O, 1 for each k, 8 for each L"
+pub data Layout : Type 0 where
+  inNumbers inBytes : Layout
+
+-- the places of a buffer, w being the bytes of a number: "only a whole group is a place"
+unfoldable pub placesOf : Layout → ℕ → List ℕ → ℕ
+placesOf inNumbers w old = length old
+placesOf inBytes w old = length old / w
+
+-- the buffer with numbers put in front
+unfoldable pub filled : Layout → ℕ → List ℕ → List ℕ → List ℕ
+filled inNumbers w vs old = front vs old
+filled inBytes w vs old = front (spread w vs) old
+
+-- what stands at a place of a buffer, and the number that it is
+unfoldable pub groupAt : Layout → ℕ → List ℕ → ℕ → List ℕ
+groupAt inNumbers w buffer i = take 1 (drop i buffer)
+groupAt inBytes w buffer i = take w (drop (w * i) buffer)
+
+unfoldable pub numberIn : Layout → List ℕ → ℕ
+numberIn inNumbers group = getD group 0 0
+numberIn inBytes group = number (bitsOf group)
 
 -- ---- A call of list
 
@@ -34,18 +58,29 @@ unfoldable pub For : State → Call → Type 0
 For start c = c .mark ≡ 0
 For (resumed X) c = (c .mark ≢ 0) × (c .labels ≡ X)
 
--- what list finds of the bytes t under E, and what stands at a place of the buffers afterwards
-unfoldable pub calledOn : List ℕ → ℕ → Call → Found
-calledOn t E c = listOf t E (c .mark) (c .labels) (length (c .o)) (length (c .k)) (length (c .l))
+-- what list comes to of the bytes t under E
+unfoldable pub calledOn : Layout → List ℕ → ℕ → Call → Listing
+calledOn y t E c = listOf t E (c .mark) (c .labels) (placesOf y 4 (c .o)) (length (c .k)) (placesOf y 8 (c .l))
 
-unfoldable pub standsAt : Found → Call → ℕ → Reaction
-standsAt v c i =
-    reaction (getD (front (map emittedOf (written v)) (c .o)) i 0) (getD (front (map codesOf (written v)) (c .k)) i 0)
-    (getD (front (map reachedOf (written v)) (c .l)) i 0)
+-- what stands at a place of the three buffers afterwards, and the reaction that it is
+pub record Groups : Type 0 where
+  pub o : List ℕ
+  pub k : List ℕ
+  pub l : List ℕ
+
+unfoldable pub standsAt : Layout → Listing → Call → ℕ → Groups
+standsAt y v c i = record {
+  o = groupAt y 4 (filled y 4 (map emittedIn (written v)) (c .o)) i;
+  k = groupAt y 1 (front (map codeIn (written v)) (c .k)) i;
+  l = groupAt y 8 (filled y 8 (map reachedIn (written v)) (c .l)) i;
+}
+
+unfoldable pub readBack : Layout → Groups → Reaction
+readBack y g = reaction (numberIn y (g .o)) (numberIn y (g .k)) (numberIn y (g .l))
 
 -- the reaction stands at a place below the count n
-abbrev pub Stands : Found → Call → ℕ → Reaction → Type 0
-Stands v c n r = (i : ℕ) × (i < n) × (standsAt v c i ≡ r)
+abbrev pub Stands : Layout → Listing → Call → ℕ → Reaction → Type 0
+Stands y v c n r = (i : ℕ) × (i < n) × (readBack y (standsAt y v c i) ≡ r)
 
 -- ---- The demand
 
@@ -56,17 +91,17 @@ pub record Indistinguishable (t : List ℕ) (p q : Statement) (u : List ℕ) : T
   -- 2. At the start and at each state that such a run comes to, under every E, the listings by the rules, without any limit,
   --    are equal.
   pub listings : (ts : List Step) → Run p ts → (x : State) → StateOf ts x → (E : ℕ) → listing p x E ≡ listing q x E
-  -- 3. At those states, under every E, with six result buffers of any lengths: wherever list refuses neither t nor u, the
-  --    counts are equal, what stands in the buffers afterwards is equal at every place below the count, and a triple stands
-  --    there exactly if the rules of that table derive it.
-  pub answers : (ts : List Step) → Run p ts → (x : State) → StateOf ts x → (E : ℕ) (c d : Call) → For x c → For x d → (n m : ℕ)
-      → answerOf (calledOn t E c) ≡ Listed n → answerOf (calledOn u E d) ≡ Listed m
+  -- 3. At those states, under every E, with six result buffers of any lengths, of numbers or of bytes: wherever list refuses
+  --    neither t nor u, the counts are equal, what stands in the buffers afterwards is equal at every place below the count,
+  --    and, read back, a triple stands there exactly if the rules of that table derive it.
+  pub answers : (ts : List Step) → Run p ts → (x : State) → StateOf ts x → (E : ℕ) (y : Layout) (c d : Call) → For x c → For x d → (n m : ℕ)
+      → listingOutcome (calledOn y t E c) ≡ values (n ∷ []) → listingOutcome (calledOn y u E d) ≡ values (m ∷ [])
       → (n ≡ m)
-      × ((i : ℕ) → i < n → standsAt (calledOn t E c) c i ≡ standsAt (calledOn u E d) d i)
-      × ((r : Reaction) → Stands (calledOn t E c) c n r ↔ Reacts p x E r)
-      × ((r : Reaction) → Stands (calledOn u E d) d m r ↔ Reacts q x E r)
+      × ((i : ℕ) → i < n → standsAt y (calledOn y t E c) c i ≡ standsAt y (calledOn y u E d) d i)
+      × ((r : Reaction) → Stands y (calledOn y t E c) c n r ↔ Reacts p x E r)
+      × ((r : Reaction) → Stands y (calledOn y u E d) d m r ↔ Reacts q x E r)
   -- 4. Where trim accepts t, what it wrote begins with u, and check accepts u and reads it as q.
-  pub trims : (out : List ℕ) (sizes : Written) → trimOf t (length out) ≡ Accepted sizes
+  pub trims : (out sizes : List ℕ) → trimOf t (length out) ≡ values sizes
       → (take (length u) (bufferOf t out) ≡ u) × (tableOf u ≡ holds (size q) q)
 
 -- For every table that check accepts, also where trim gives 12 or 13.

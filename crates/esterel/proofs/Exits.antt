@@ -8,9 +8,10 @@ use native.Mathlib.Omega.{arith}
 use Rattle.sets.specs.Set.{has}
 use Rattle.sets.proofs.Booleans.{or-cases, by-cond, clash}
 use Rattle.sets.proofs.Members.{within-ext, has-empty, has-union, has-only-equal}
-use Rattle.esterel.specs.Statement.{Statement, nothing, pause, gotopause, emit, exit, signal, present, sequence, parallel, loop, try, Valid, ExitsWithin, LevelsFromOne}
+use Rattle.esterel.specs.Statement.{Statement, nothing, pause, gotopause, emit, exit, signal, present, sequence, parallel, loop, try, Valid}
 use Rattle.esterel.specs.Codes.{Codes, Qualified, codeOf, contains, none, justEnded, justAt, justCode, join, minusZero, throughTry, noLowerThan, maximum, s, d}
 use Rattle.esterel.specs.Reactions.{State, start, resumed, Derives}
+use Rattle.esterel.proofs.Premises.{ExitsWithin, LevelsFromOne}
 use Rattle.esterel.proofs.Codes.{EachHigher, FromTwo, Maximal, contains-maximum, noLowerThan-higher, has-lowered, lowered-low, followed, s-sequence, d-sequence, d-loop}
 use Rattle.esterel.proofs.Soundness.{Among, sound-start, sound-resumed}
 

@@ -3,11 +3,12 @@
 use mathlib.Core.Path.{_≡_}
 use mathlib.Core.List.{List}
 use Prim.Native.Nat.{ℕ}
-use Rattle.esterel.specs.Statement.{Statement, LevelsFromOne}
+use Rattle.esterel.specs.Statement.{Statement}
 use Rattle.esterel.specs.Trimming.{trimmed}
 use Rattle.esterel.specs.Reactions.{State}
 use Rattle.esterel.specs.Runs.{Step, Run, StateOf}
 use Rattle.esterel.specs.Listing.{list}
+use Rattle.esterel.proofs.Premises.{LevelsFromOne}
 use Rattle.esterel.proofs.Runs.{same-reactions}
 use Rattle.esterel.proofs.Listing.{same-listing}
 

@@ -1,3 +1,4 @@
+pub mod Premises
 pub mod Codes
 pub mod Soundness
 pub mod Exits
@@ -7,6 +8,7 @@ pub mod Levels
 pub mod Unnamed
 pub mod Trimming
 pub mod Validity
+pub mod Bounds
 pub mod Runs
 pub mod Published
 pub mod Counterexamples
@@ -14,4 +16,5 @@ pub mod Order
 pub mod Emitting
 pub mod Listing
 pub mod Needed
+pub mod Ignored
 pub mod Indistinguishable

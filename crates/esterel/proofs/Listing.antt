@@ -16,7 +16,7 @@ use Rattle.esterel.specs.Reactions.{State, start, resumed, reachedTogeth
 use Rattle.esterel.specs.Reactions as rule
 use Rattle.esterel.specs.Listing.{Listed, Rising, IsListing, reaction, one, onlyIf, each, hide, follow, pair, together, going, caught, list}
 use Rattle.esterel.proofs.Order.{append-left, append-right, append-cases, each-in, each-out, onlyIf-in, onlyIf-out, one-out, same-reaction, sorted-in, sorted-out, sorted-rising, same-list}
-use Rattle.esterel.proofs.Soundness.{reached-empty}
+use Rattle.esterel.proofs.Soundness.{recast, reached-empty}
 
 -- ---- the listing holds the reactions, and no others
 abbrev Of : Statement → State → ℕ → Reaction → Type 0
@@ -103,9 +103,6 @@ together-out ts us r h =
 pub together-in : (ts us : List Reaction) (t u : Reaction) → Listed t ts → Listed u us → Listed (pair t u) (together ts us)
 unfolding together pair
 together-in ts us t u m n = each-in (pair t u) t ts (λ t. each us (λ u. one (pair t u))) m (each-in (pair t u) u us (λ u. one (pair t u)) n (inl refl))
-
-recast : {p : Statement} {x : State} {E O k L O′ k′ L′ : ℕ} → O ≡ O′ → k ≡ k′ → L ≡ L′ → Derives p x E O′ k′ L′ → Derives p x E O k L
-recast a b c h = rw (a, b, c) h
 
 ended : {p : Statement} {x : State} {E O k L : ℕ} → k ≡ 0 → Derives p x E O k L → Derives p x E O 0 0
 ended e r = recast refl (sym e) (sym (reached-empty r (λ f. omega arith))) r

@@ -8,12 +8,12 @@ use Prim.Native.Nat.{ℕ, zero, suc, _≤_, _<_, max}
 use native.Mathlib.Omega.{arith}
 use lib.Dec.{ltb}
 use lib.ListN.{length}
+use borrow.Author.Tests.{ltb-true, lt-ltb}
 use Rattle.sets.specs.Set.{has, only, _union_, _without_}
 use Rattle.sets.proofs.Booleans.{or-left, or-right, or-cases, by-cond, clash, same-bool}
 use Rattle.esterel.specs.Statement.{Statement, nothing, pause, gotopause, emit, exit, signal, present, sequence, parallel, loop, try, depth}
 use Rattle.esterel.specs.Reactions.{State, start, resumed}
 use Rattle.esterel.specs.Listing.{Listed, list, Request, request, needs, someEnds, Crowded, own, child, some, crowdedWithin, crowded}
-use Rattle.esterel.proofs.Order.{ltb-yes, ltb-lt}
 
 -- ---- some
 pub some-in : {A : Type 0} (f : A → Bool) (a : A) (l : List A) → Listed a l → f a ≡ true → some f l ≡ true
@@ -89,21 +89,21 @@ CrowdedRequest n r = crowdedWithin n (r .statement) (r .state) (r .assumed)
 
 within-crowded : (n : ℕ) (p : Statement) (x : State) (E : ℕ) → crowdedWithin n p x E ≡ true → Crowded p x E
 unfolding crowdedWithin
-within-crowded zero p x E h = own (ltb-yes 64 (length (list p x E)) h)
+within-crowded zero p x E h = own (ltb-true 64 (length (list p x E)) h)
 within-crowded (suc n) p x E h =
     go (λ r k. within-crowded n (r .statement) (r .state) (r .assumed) k)
     (or-cases (ltb 64 (length (list p x E))) (some (CrowdedRequest n) (needs p x E)) h)
   where
     go : ((r : Request) → CrowdedRequest n r ≡ true → Crowded (r .statement) (r .state) (r .assumed))
         → (ltb 64 (length (list p x E)) ≡ true) ⊎ (some (CrowdedRequest n) (needs p x E) ≡ true) → Crowded p x E
-    go f (inl k) = own (ltb-yes 64 (length (list p x E)) k)
+    go f (inl k) = own (ltb-true 64 (length (list p x E)) k)
     go f (inr k) = let (r, m, e) = some-out (CrowdedRequest n) (needs p x E) k in child r m (f r e)
 
 crowded-within : (n : ℕ) {p : Statement} {x : State} {E : ℕ} → depth p ≤ n → Crowded p x E → crowdedWithin n p x E ≡ true
 unfolding crowdedWithin
-crowded-within zero {p} {x} {E} l (own h) = ltb-lt 64 (length (list p x E)) h
+crowded-within zero {p} {x} {E} l (own h) = lt-ltb 64 (length (list p x E)) h
 crowded-within zero {p} {x} {E} l (child r m c) = absurd (let k = needs-shallower p x E r m in omega arith)
-crowded-within (suc n) {p} {x} {E} l (own h) = or-left _ (ltb-lt 64 (length (list p x E)) h)
+crowded-within (suc n) {p} {x} {E} l (own h) = or-left _ (lt-ltb 64 (length (list p x E)) h)
 crowded-within (suc n) {p} {x} {E} l (child r m c) =
     let k = needs-shallower p x E r m in
     or-right (ltb 64 (length (list p x E))) (some-in (CrowdedRequest n) r (needs p x E) m (crowded-within n (omega arith) c))
@@ -123,10 +123,10 @@ crowded-step p x E =
     here r = crowded (r .statement) (r .state) (r .assumed)
 
     down : Crowded p x E → (ltb 64 (length (list p x E)) || some here (needs p x E)) ≡ true
-    down (own h) = or-left _ (ltb-lt 64 (length (list p x E)) h)
+    down (own h) = or-left _ (lt-ltb 64 (length (list p x E)) h)
     down (child r m c) =
         or-right (ltb 64 (length (list p x E))) (some-in here r (needs p x E) m (crowded-iff (r .statement) (r .state) (r .assumed) .1 c))
 
     up : (ltb 64 (length (list p x E)) ≡ true) ⊎ (some here (needs p x E) ≡ true) → Crowded p x E
-    up (inl h) = own (ltb-yes 64 (length (list p x E)) h)
+    up (inl h) = own (ltb-true 64 (length (list p x E)) h)
     up (inr h) = let (r, m, e) = some-out here (needs p x E) h in child r m (crowded-iff (r .statement) (r .state) (r .assumed) .0 e)

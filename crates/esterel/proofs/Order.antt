@@ -1,13 +1,14 @@
 -- Lists of reactions: what stands in a list, the order, sorting, and that a rising list is determined by its members.
 use mathlib.Core.Path.{_≡_, refl, sym, ap₂, _∙_, subst}
 use mathlib.Core.Logic.{_⊎_, inl, inr}
-use mathlib.Core.Bool.{Bool, true, false, not, _&&_, _||_, cond}
+use mathlib.Core.Bool.{Bool, true, false, _&&_, _||_, cond}
 use mathlib.Core.List.{List, [], _∷_, _++_}
 use Prim.Native.Nat.{ℕ, suc, _≤_, _<_}
 use lib.ListN.{length}
 use native.Mathlib.Decide.{decLe, ℕ-discrete}
 use native.Mathlib.Omega.{arith}
-use lib.Dec.{eqb, ltb, ltb→lt, nltb→le, T}
+use lib.Dec.{eqb, ltb}
+use borrow.Author.Tests.{ltb-true, lt-ltb}
 use Rattle.sets.proofs.Booleans.{or-left, or-right, or-cases, and-cases, clash, by-cond, eqb-equal, eqb-same}
 use Rattle.esterel.specs.Reactions.{Reaction}
 use Rattle.esterel.specs.Listing.{Listed, Before, Rising, before, insert, sorted, one, onlyIf, each}
@@ -55,41 +56,28 @@ pub one-out : (r t : Reaction) → Listed r (one t) → r ≡ t
 one-out r t (inl e) = e
 
 -- ---- the order
-pub ltb-yes : (m n : ℕ) → ltb m n ≡ true → m < n
-ltb-yes m n e = ltb→lt m n (subst T (sym e) tt)
-
-pub ltb-not : (m n : ℕ) → ltb m n ≡ false → n ≤ m
-ltb-not m n e = nltb→le m n (subst (λ b. T (not b)) (sym e) tt)
-
 pub before-yes : (r t : Reaction) → before r t ≡ true → Before r t
 unfolding before
 before-yes r t h = go (or-cases (ltb (r .emitted) (t .emitted)) (eqb (r .emitted) (t .emitted) && (ltb (r .code) (t .code) || (eqb (r .code) (t .code) && ltb (r .reached) (t .reached)))) h)
   where
     second : (ltb (r .code) (t .code) ≡ true) ⊎ ((eqb (r .code) (t .code) && ltb (r .reached) (t .reached)) ≡ true) → (r .code < t .code) ⊎ ((r .code ≡ t .code) × (r .reached < t .reached))
-    second (inl e) = inl (ltb-yes (r .code) (t .code) e)
-    second (inr e) = let u = and-cases (eqb (r .code) (t .code)) (ltb (r .reached) (t .reached)) e in inr (eqb-equal (r .code) (t .code) (u .0), ltb-yes (r .reached) (t .reached) (u .1))
+    second (inl e) = inl (ltb-true (r .code) (t .code) e)
+    second (inr e) = let u = and-cases (eqb (r .code) (t .code)) (ltb (r .reached) (t .reached)) e in inr (eqb-equal (r .code) (t .code) (u .0), ltb-true (r .reached) (t .reached) (u .1))
 
     go : (ltb (r .emitted) (t .emitted) ≡ true) ⊎ ((eqb (r .emitted) (t .emitted) && (ltb (r .code) (t .code) || (eqb (r .code) (t .code) && ltb (r .reached) (t .reached)))) ≡ true) → Before r t
-    go (inl e) = inl (ltb-yes (r .emitted) (t .emitted) e)
+    go (inl e) = inl (ltb-true (r .emitted) (t .emitted) e)
     go (inr e) =
         let u = and-cases (eqb (r .emitted) (t .emitted)) (ltb (r .code) (t .code) || (eqb (r .code) (t .code) && ltb (r .reached) (t .reached))) e in
         inr (eqb-equal (r .emitted) (t .emitted) (u .0), second (or-cases (ltb (r .code) (t .code)) (eqb (r .code) (t .code) && ltb (r .reached) (t .reached)) (u .1)))
 
-pub ltb-lt : (m n : ℕ) → m < n → ltb m n ≡ true
-ltb-lt m n h = go (ltb m n) refl
-  where
-    go : (b : Bool) → ltb m n ≡ b → ltb m n ≡ true
-    go true e = e
-    go false e = absurd (let l = ltb-not m n e in omega arith)
-
 pub before-is : (r t : Reaction) → Before r t → before r t ≡ true
 unfolding before
-before-is r t (inl h) = or-left _ (ltb-lt (r .emitted) (t .emitted) h)
+before-is r t (inl h) = or-left _ (lt-ltb (r .emitted) (t .emitted) h)
 before-is r t (inr h) = or-right (ltb (r .emitted) (t .emitted)) (rw (h .0, eqb-same (t .emitted)) (go (h .1)))
   where
     go : (r .code < t .code) ⊎ ((r .code ≡ t .code) × (r .reached < t .reached)) → (ltb (r .code) (t .code) || (eqb (r .code) (t .code) && ltb (r .reached) (t .reached))) ≡ true
-    go (inl k) = or-left _ (ltb-lt (r .code) (t .code) k)
-    go (inr k) = or-right (ltb (r .code) (t .code)) (rw (k .0, eqb-same (t .code)) (ltb-lt (r .reached) (t .reached) (k .1)))
+    go (inl k) = or-left _ (lt-ltb (r .code) (t .code) k)
+    go (inr k) = or-right (ltb (r .code) (t .code)) (rw (k .0, eqb-same (t .code)) (lt-ltb (r .reached) (t .reached) (k .1)))
 
 not-before : (r t : Reaction) → before r t ≡ false → Before r t → ⊥
 not-before r t e h = clash (before-is r t h) e

@@ -177,9 +177,6 @@ module _ (p : Statement) where
   unfolding afterRounds
   reach-rests = let (m, e, f) = reach-first in rw e (f .0)
 
-  pub reach-pauses : Within (reach p .set) (pauses p)
-  reach-pauses = let (m, e, f) = reach-first in rw e (afterRounds-pauses p m)
-
 -- one more round adds nothing to R: "the pause labels of the program whose code 1 is in s or in d" over R are in R
 abbrev pub Closed : Statement → ℕ → Type 0
 Closed p R = (l : ℕ) → has (pauses p) l ≡ true → (has (labels (s p)) l || has (labels (d R p)) l) ≡ true → has R l ≡ true

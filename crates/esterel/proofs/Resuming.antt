@@ -2,11 +2,11 @@
 -- rules: only `resume` and the one-sided rules of a parallel look at the state, and they look at labels of pauses.
 use mathlib.Core.Path.{_≡_, sym, _∙_}
 use mathlib.Core.Logic.{_↔_}
-use mathlib.Core.Bool.{true, and-true}
+use mathlib.Core.Bool.{true}
 use Prim.Native.Nat.{ℕ}
-use Rattle.sets.specs.Set.{has, _union_, _intersect_, Apart}
+use Rattle.sets.specs.Set.{has, _union_, Apart}
 use Rattle.sets.proofs.Booleans.{or-left, or-right, clash, not-true}
-use Rattle.sets.proofs.Members.{has-union, has-only, has-intersect, apart-union⁻}
+use Rattle.sets.proofs.Members.{has-union, has-only, apart-union⁻}
 use Rattle.esterel.specs.Statement.{Statement, pause, signal, present, sequence, parallel, loop, try, pauses}
 use Rattle.esterel.specs.Reactions.{resumed, Derives, Reaction, Reacts}
 use Rattle.esterel.specs.Reactions as rule
@@ -15,10 +15,10 @@ use Rattle.esterel.specs.Reactions as rule
 abbrev pub AgreeOn : ℕ → ℕ → ℕ → Type 0
 AgreeOn a X Y = (l : ℕ) → has a l ≡ true → has X l ≡ has Y l
 
-agree-left : (a b X Y : ℕ) → AgreeOn (a union b) X Y → AgreeOn a X Y
+pub agree-left : (a b X Y : ℕ) → AgreeOn (a union b) X Y → AgreeOn a X Y
 agree-left a b X Y f l h = f l (has-union a b l ∙ or-left _ h)
 
-agree-right : (a b X Y : ℕ) → AgreeOn (a union b) X Y → AgreeOn b X Y
+pub agree-right : (a b X Y : ℕ) → AgreeOn (a union b) X Y → AgreeOn b X Y
 agree-right a b X Y f l h = f l (has-union a b l ∙ or-right (has a l) h)
 
 agree-apart : (a X Y : ℕ) → AgreeOn a X Y → Apart X a → Apart Y a
@@ -50,17 +50,9 @@ pub derives-agree : (p : Statement) (X Y : ℕ) → AgreeOn (pauses p) X Y → {
 derives-agree p X Y f = (agrees p X Y f, agrees p Y X (λ l h. sym (f l h)))
 
 -- "label bits without a pause, bit 0 among them, are ignored in a state"
-pub derives-intersect : (p : Statement) (X : ℕ) {E O k L : ℕ} → Derives p (resumed X) E O k L ↔ Derives p (resumed (X intersect pauses p)) E O k L
-derives-intersect p X = derives-agree p X (X intersect pauses p) (λ l h. sym (has-intersect X (pauses p) l ∙ rw h (and-true (has X l))))
-
--- both of the reactions of a program
 pub reacts-agree : (p : Statement) (X Y : ℕ) → AgreeOn (pauses p) X Y → (E : ℕ) (r : Reaction) → Reacts p (resumed X) E r ↔ Reacts p (resumed Y) E r
 unfolding Reacts
 reacts-agree p X Y f E r = derives-agree p X Y f
-
-pub reacts-intersect : (p : Statement) (X E : ℕ) (r : Reaction) → Reacts p (resumed X) E r ↔ Reacts p (resumed (X intersect pauses p)) E r
-unfolding Reacts
-reacts-intersect p X E r = derives-intersect p X
 
 -- ---- A state with no label of a pause
 pub derives-apart : (p : Statement) (X : ℕ) → Apart X (pauses p) → {E O k L : ℕ} → Derives p (resumed X) E O k L → ⊥
@@ -79,7 +71,3 @@ derives-apart (parallel p q) X f (rule.par O₁ k₁ L₁ O₂ k₂ L₂ a b e g
 derives-apart (loop p) X f (rule.no-loop r h) = derives-apart p X f r
 derives-apart (loop p) X f (rule.loop O₁ O₂ a b h e) = derives-apart p X f a
 derives-apart (try p) X f (rule.try k₁ r e) = derives-apart p X f r
-
-pub reacts-apart : (p : Statement) (X : ℕ) → Apart X (pauses p) → (E : ℕ) (r : Reaction) → Reacts p (resumed X) E r → ⊥
-unfolding Reacts
-reacts-apart p X f E r = derives-apart p X f

@@ -7,12 +7,13 @@ use mathlib.Core.List.{List, [], _∷_}
 use Prim.Native.Nat.{ℕ}
 use Rattle.sets.specs.Set.{has}
 use Rattle.sets.proofs.Booleans.{or-left, or-right}
-use Rattle.esterel.specs.Statement.{Statement, LevelsFromOne}
+use Rattle.esterel.specs.Statement.{Statement}
 use Rattle.esterel.specs.Codes.{labels, s, d}
 use Rattle.esterel.specs.Reachability.{reach}
 use Rattle.esterel.specs.Trimming.{trimmed}
 use Rattle.esterel.specs.Reactions.{State, start, resumed, Reaction, Reacts}
 use Rattle.esterel.specs.Runs.{Step, RunFrom, Run, StateOf}
+use Rattle.esterel.proofs.Premises.{LevelsFromOne}
 use Rattle.esterel.proofs.Soundness.{Among, Allowed, sound-start, sound-resumed}
 use Rattle.esterel.proofs.Reachability.{Closed, reach-closed}
 use Rattle.esterel.proofs.Trimming.{trim-keeps}

@@ -9,12 +9,17 @@ use native.Mathlib.Omega.{arith}
 use Rattle.sets.specs.Set.{has, only, _union_}
 use Rattle.sets.proofs.Booleans.{or-left, or-right, or-cases, clash, eqb-differ}
 use Rattle.sets.proofs.Members.{has-empty, has-union, has-only}
-use Rattle.esterel.specs.Statement.{Statement, nothing, pause, gotopause, emit, exit, signal, present, sequence, parallel, loop, try, pauses, LevelsFromOne}
+use Rattle.esterel.specs.Statement.{Statement, nothing, pause, gotopause, emit, exit, signal, present, sequence, parallel, loop, try, pauses}
 use Rattle.esterel.specs.Codes.{Codes, Qualified, ended, at, above, plain, codeOf, through, throughQualified, contains, labels, none, justEnded, justAt, justCode, join, minusZero, throughTry, maximum, s, d}
 use Rattle.esterel.specs.Trimming.{canEnd}
 use Rattle.esterel.specs.Reactions.{State, start, resumed, reachedTogether, Derives}
 use Rattle.esterel.specs.Reactions as rule
+use Rattle.esterel.proofs.Premises.{LevelsFromOne}
 use Rattle.esterel.proofs.Codes.{contains-left, contains-right, contains-throughTry⁺, contains-maximum⁺, maximum-joins, followed, s-sequence, d-sequence, d-loop}
+
+-- a derivation of a reaction, as one of another that is equal
+pub recast : {p : Statement} {x : State} {E O k L O′ k′ L′ : ℕ} → O ≡ O′ → k ≡ k′ → L ≡ L′ → Derives p x E O′ k′ L′ → Derives p x E O k L
+recast a b c h = rw (a, b, c) h
 
 -- ---- "L is empty wherever k is not 1"
 pub reachedTogether-other : (k L M : ℕ) → k ≢ 1 → reachedTogether k L M ≡ 0

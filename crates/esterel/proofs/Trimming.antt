@@ -11,11 +11,12 @@ use native.Mathlib.Omega.{arith}
 use Rattle.sets.specs.Set.{has, only, _union_, _intersect_, _without_, Apart, Within}
 use Rattle.sets.proofs.Booleans.{or-left, or-right, or-neither, or-cases, and-both, not-true, clash, by-cond}
 use Rattle.sets.proofs.Members.{has-empty, has-union, has-intersect, has-only, has-only-equal, empty-union, union-empty, union-within}
-use Rattle.esterel.specs.Statement.{Statement, nothing, pause, gotopause, emit, exit, signal, present, sequence, parallel, loop, try, pauses, LevelsFromOne}
+use Rattle.esterel.specs.Statement.{Statement, nothing, pause, gotopause, emit, exit, signal, present, sequence, parallel, loop, try, pauses}
 use Rattle.esterel.specs.Trimming.{isNothing, joinParts, names, endsAt, raise, lower, canEnd, trimLoop, trimSignal, trimPresent, trimTry, trim}
 use Rattle.esterel.specs.Reactions.{State, start, resumed, Derives, reachedTogether}
 use Rattle.esterel.specs.Reactions as rule
-use Rattle.esterel.proofs.Soundness.{reachedTogether-other, reached-empty, MeetIn, Allowed, sound-ends}
+use Rattle.esterel.proofs.Premises.{LevelsFromOne}
+use Rattle.esterel.proofs.Soundness.{recast, reachedTogether-other, reached-empty, MeetIn, Allowed, sound-ends}
 use Rattle.esterel.proofs.Levels.{exit-not-resumed, pauses-shift, lowered, lowered⁻, behindExit, behind-resumed, behind-resumed⁻, behind-start, behind-start⁻}
 use Rattle.esterel.proofs.Unnamed.{undeclared, undeclared⁻}
 
@@ -163,9 +164,6 @@ then p q r x a b = (λ E O k L t. b .0 E O k L (a .0 E O k L t), λ E O k L t. a
 
 itself : (p : Statement) (x : State) → Same p p x
 itself p x = (λ E O k L t. t, λ E O k L t. t)
-
-recast : {p : Statement} {x : State} {E O k L O′ k′ L′ : ℕ} → O ≡ O′ → k ≡ k′ → L ≡ L′ → Derives p x E O′ k′ L′ → Derives p x E O k L
-recast a b c h = rw (a, b, c) h
 
 ended-empty : {p : Statement} {x : State} {E O k L : ℕ} → k ≡ 0 → Derives p x E O k L → L ≡ 0
 ended-empty e r = reached-empty r (λ f. omega arith)
@@ -461,12 +459,12 @@ pub trim-keeps : (R : ℕ) (b : Bool) (p : Statement) (x : State) → LevelsFrom
     → (E O k L : ℕ) → Derives p x E O k L ↔ Derives (trim R b p) x E O k L
 trim-keeps R b p x w v E O k L = let f = same R p b x w v in (f .0 E O k L, f .1 E O k L)
 
--- Lemma 11: "Whatever R", what a statement does when started is kept with the flag 1
+-- Lemma 11, whatever R: what a statement does when started is kept with the flag 1
 pub trim-keeps-start : (R : ℕ) (p : Statement) → LevelsFromOne p
     → (E O k L : ℕ) → Derives p start E O k L ↔ Derives (trim R true p) start E O k L
 trim-keeps-start R p w = trim-keeps R true p start w refl
 
--- Lemma 12: "Whatever b", what it does when resumed is kept in every state whose pause labels are in R
+-- Lemma 12, whatever b: what it does when resumed is kept in every state whose pause labels are in R
 pub trim-keeps-resumed : (R : ℕ) (b : Bool) (p : Statement) (X : ℕ) → LevelsFromOne p → Within (X intersect pauses p) R
     → (E O k L : ℕ) → Derives p (resumed X) E O k L ↔ Derives (trim R b p) (resumed X) E O k L
 trim-keeps-resumed R b p X w v =

@@ -8,9 +8,10 @@ use native.Mathlib.Omega.{arith}
 use Rattle.sets.specs.Set.{has, Apart}
 use Rattle.sets.proofs.Booleans.{not-true, clash}
 use Rattle.sets.proofs.Members.{has-empty, empty-union}
-use Rattle.esterel.specs.Statement.{Statement, nothing, pause, gotopause, emit, exit, signal, present, sequence, parallel, loop, try, pauses, size, depth, Valid, LevelsFromOne}
+use Rattle.esterel.specs.Statement.{Statement, nothing, pause, gotopause, emit, exit, signal, present, sequence, parallel, loop, try, pauses, size, depth, Valid}
 use Rattle.esterel.specs.Reachability.{reach}
 use Rattle.esterel.specs.Trimming.{shiftLevel, shiftExits, raise, lower, joinParts, canEnd, trimPresent, trimTry, trim, trimmed}
+use Rattle.esterel.proofs.Premises.{LevelsFromOne}
 use Rattle.esterel.proofs.Levels.{Shifted, shifted, pauses-shift, size-shift, raise-lower}
 use Rattle.esterel.proofs.Trimming.{by-leaf, by-join, by-signal, by-present, by-loop, by-try, kept-pauses}
 

@@ -12,6 +12,11 @@ pub struct Level(pub u8);
 // A completion code: 0 ended, 1 paused, and above that an exit.
 pub struct Code(pub u16);
 
+// The codes that are not of an exit.
+pub const ENDED: u16 = 0;
+
+pub const PAUSED: u16 = 1;
+
 // The completion code of an exit.
 pub fn code_of(level: Level) -> Code
     ensures { λ r. ⌜ r .0 ≡ codeOf (level .0) ⌝ }

@@ -10,17 +10,19 @@ use Prim.Native.Nat.{ℕ, _≤_}
 use native.Mathlib.Omega.{arith}
 use lib.Dec.{eqb, ltb}
 use lib.ListN.{length}
+use borrow.Author.Tests.{ltb-true, ltb-false, lt-ltb}
 use Rattle.sets.specs.Set.{has, only, _union_, _intersect_, _without_, Apart}
 use Rattle.sets.proofs.Booleans.{or-left, or-right, or-cases, or-neither, or-false, by-cond, clash, not-true, same-bool}
 use Rattle.sets.proofs.Members.{test-apart, apart-union⁻}
 use Rattle.esterel.specs.Statement.{Statement, nothing, pause, gotopause, emit, exit, signal, present, sequence, parallel, loop, try, pauses}
 use Rattle.esterel.specs.Reactions.{State, start, resumed, Reaction}
 use Rattle.esterel.specs.Listing.{Listed, Rising, reaction, sorted, one, onlyIf, each, hide, follow, together, going, caught, list, Request, request, needs, someEnds, Crowded, own, child, some as some-of, crowded}
-use Rattle.esterel.proofs.Order.{append-left, append-right, sorted-in, sorted-out, sorted-rising, sorted-same, sorted-of-rising, rising-shorter, ltb-yes, ltb-not, ltb-lt}
+use Rattle.esterel.proofs.Order.{append-left, append-right, sorted-in, sorted-out, sorted-rising, sorted-same, sorted-of-rising, rising-shorter}
 use Rattle.esterel.proofs.Listing.{Chain, follow-out, follow-left, follow-right, going-in, going-out, together-out, listed-out, list-rising, split}
 use Rattle.esterel.proofs.Needed.{crowded-iff, crowded-step}
 use Rattle.esterel.proofs.Resuming.{derives-apart}
-use Rattle.area.specs.Area.{cap, collect}
+use Rattle.area.specs.inner.Area.{cap, collect}
+use Rattle.area.proofs.Members.{cap-some}
 use Rattle.list.specs.inner.Capped.{Capped, changeIn, joinIn, unionIn, followIn, besideIn, capped}
 
 -- none where b, else the list
@@ -32,11 +34,7 @@ crowdedOf r = crowded (r .statement) (r .state) (r .assumed)
 
 -- ---- a list that is not crowded is short
 own-short : (p : Statement) (x : State) (E : ℕ) → crowded p x E ≡ false → length (list p x E) ≤ 64
-own-short p x E h = ltb-not 64 (length (list p x E)) (or-neither (ltb 64 (length (list p x E))) (some-of crowdedOf (needs p x E)) (sym (crowded-step p x E) ∙ h) .0)
-
-cap-short : (ts : List Reaction) → length ts ≤ 64 → cap ts ≡ some ts
-unfolding cap
-cap-short ts h = ap (λ b. answer b ts) (not-true (ltb 64 (length ts)) (λ e. absurd (let i = ltb-yes 64 (length ts) e in omega arith)))
+own-short p x E h = ltb-false 64 (length (list p x E)) (or-neither (ltb 64 (length (list p x E))) (some-of crowdedOf (needs p x E)) (sym (crowded-step p x E) ∙ h) .0)
 
 -- ---- a part without a label of the state
 pub apart-empty : (p : Statement) (X E : ℕ) → Apart X (pauses p) → list p (resumed X) E ≡ []
@@ -102,7 +100,7 @@ unfolding cap
 made L = ap (λ z. answer z L) (sym (or-false (ltb 64 (length L))))
 
 short : (L : List Reaction) → length L ≤ 64 → some L ≡ answer (ltb 64 (length L) || false) L
-short L h = sym (cap-short L h) ∙ made L
+short L h = sym (cap-some L h) ∙ made L
 
 change-one : (f : List Reaction → List Reaction) (c : Bool) (ts : List Reaction)
     → changeIn f (answer c ts) ≡ answer (ltb 64 (length (sorted (f ts))) || (c || false)) (sorted (f ts))
@@ -123,8 +121,8 @@ union-made : (e : Bool) (h us L : List Reaction) → Rising h → Rising L → (
 unfolding cap joinIn
 union-made e h us L rh rL within same =
     by-cond (λ v. unionIn v (answer e us) ≡ answer (ltb 64 (length L) || (e || false)) L) (ltb 64 (length h)) none (some h)
-    (λ k. let i = ltb-yes 64 (length h) k in let j = rising-shorter L h rh rL within in
-    ap (λ z. answer z L) (sym (or-left (e || false) (ltb-lt 64 (length L) (omega arith)))))
+    (λ k. let i = ltb-true 64 (length h) k in let j = rising-shorter L h rh rL within in
+    ap (λ z. answer z L) (sym (or-left (e || false) (lt-ltb 64 (length L) (omega arith)))))
     (λ k. join-two _++_ false e h us L same)
 
 -- the same where the list on the way is collected from a
@@ -213,7 +211,7 @@ loop-again false e ts us L rt ru st su same = go (someEnds ts) refl e su
     short-going : length us ≤ 64 → cap (sorted (going us)) ≡ some (sorted (going us))
     short-going s =
         let i = rising-shorter us (sorted (going us)) (sorted-rising (going us)) ru (λ r m. going-out us r (sorted-out r (going us) m) .0) in
-        cap-short (sorted (going us)) (omega arith)
+        cap-some (sorted (going us)) (omega arith)
 
     into : (r : Reaction) → Chain ts (sorted (going us)) r → Listed r (going (follow ts us))
     into r (inl u) = going-in (follow ts us) r (follow-left ts us r (u .0) (u .1)) (u .1)
@@ -265,7 +263,7 @@ absorb p x E =
     (λ h. or-right (ltb 64 (length (list p x E))) (or-left false h))
   where
     go : (ltb 64 (length (list p x E)) ≡ true) ⊎ ((crowded p x E || false) ≡ true) → crowded p x E ≡ true
-    go (inl h) = crowded-iff p x E .1 (own (ltb-yes 64 (length (list p x E)) h))
+    go (inl h) = crowded-iff p x E .1 (own (ltb-true 64 (length (list p x E)) h))
     go (inr h) = sym (or-false (crowded p x E)) ∙ h
 
 -- ---- p || q resumed

@@ -10,7 +10,7 @@ use lib.Seq.{getD-set-same, getD-set-other}
 use Rattle.esterel.specs.Statement.{Statement}
 use Rattle.esterel.specs.Reactions.{start, resumed}
 use Rattle.esterel.specs.Listing.{Rising}
-use Rattle.area.specs.Area.{rows, Made}
+use Rattle.area.specs.inner.Area.{rows, Made}
 use Rattle.area.proofs.Rows.{rows-agree}
 use Rattle.area.proofs.Made.{made-as}
 use Rattle.list.specs.inner.Capped.{Capped, capped}

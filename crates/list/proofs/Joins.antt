@@ -15,12 +15,12 @@ use Rattle.esterel.specs.Listing.{Rising, hide, follow, together, going, caught
 use Rattle.area.specs.declared.Change.{Change}
 use Rattle.area.specs.declared.Change.the-variants.{Hide, Going, Caught}
 use Rattle.area.specs.declared.Pairing.the-variants.{Sequence, Parallel}
-use Rattle.area.specs.Rules.{changed, change, joined as joined-one, joinedAll, pairs, product}
-use Rattle.area.specs.Area.{rows, Made, Altered, Beside, Merged}
+use Rattle.area.specs.inner.Rules.{changed, change, joined as joined-one, joinedAll, pairs, product}
+use Rattle.area.specs.inner.Area.{rows, Made, Altered, Beside, Merged}
 use Rattle.area.proofs.Rows.{rows-agree}
 use Rattle.area.proofs.Made.{made-as, made-need, made-there}
 use Rattle.list.specs.inner.Capped.{Capped, changeIn, joinIn, followIn}
-use Rattle.list.specs.inner.Joins.{Above, Joined, Standing, Followed}
+use Rattle.list.specs.inner.Joins.{Above, MadeOne, Standing, Followed}
 
 -- what was made after something else
 pub made-after : {a₀ a b : List ℕ} {base need more n r : ℕ} {v w : Capped} → Made a₀ a base need v n → Made a b base more w r → more ≤ need → Made a₀ b base need w r
@@ -146,7 +146,7 @@ module _ {a₀ a : List ℕ} {base need n₁ top : ℕ} {v : Capped} (m : Made a
   beside-top p k h = beside m h (above-first h p k)
 
   pub joined : (g : List Reaction → List Reaction → List Reaction) {b c : List ℕ} {more n₂ r : ℕ} {w : Capped} → Made a b top more w n₂ → (n₁ ≤ 64 → top ≡ base + 2 * n₁ → more ≤ need)
-      → base ≤ length a₀ → Joined g b c base n₁ n₂ r → Made a₀ c base need (joinIn g v w) r
+      → base ≤ length a₀ → MadeOne g b c base n₁ n₂ r → Made a₀ c base need (joinIn g v w) r
   joined g {b} {c} {more} {n₂} {r} {w} p k l x = go (decLe n₁ 64)
     where
       none-made : 64 < n₁ → Made a₀ b base need (joinIn g v w) n₁

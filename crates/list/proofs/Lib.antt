@@ -9,3 +9,5 @@ pub mod Limits
 pub mod Fills
 pub mod Deliveries
 pub mod Cases
+pub mod Ignored
+pub mod Refusals

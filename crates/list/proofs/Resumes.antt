@@ -20,14 +20,14 @@ use Rattle.table.specs.Reading.{kindOfNode, operandOf}
 use Rattle.table.specs.inner.Places.{Placed, placed}
 use Rattle.area.specs.declared.Change.the-variants.{Going}
 use Rattle.area.specs.declared.Pairing.the-variants.{Parallel}
-use Rattle.area.specs.Rules.{change, product}
-use Rattle.area.specs.Area.{packed, Made}
+use Rattle.area.specs.inner.Rules.{change, product}
+use Rattle.area.specs.inner.Area.{Made}
 use Rattle.area.proofs.Made.{made-as, made-need, made-empty}
 use Rattle.list.specs.inner.Capped.{Capped, changeIn, joinIn, unionIn, followIn, besideIn, capped}
-use Rattle.list.specs.inner.Notes.{placeAt, partAt, PausesFrom, Ready, Resumable}
+use Rattle.list.specs.inner.Notes.{placeAt, partAt, PausesFrom, Startable, Resumable}
 use Rattle.list.specs.inner.Joins.{roomFor}
 use Rattle.list.proofs.Capped.{capped-is, apart-empty, apart-not-crowded}
-use Rattle.list.proofs.Nodes.{is-nothing, is-pause, is-gotopause, is-emit, is-exit, is-loop, is-unused}
+use Rattle.list.proofs.Nodes.{is-nothing, is-pause, is-gotopause, is-emit, is-exit, is-loop}
 use Rattle.list.proofs.Joins.{going-is, together-is}
 use Rattle.list.proofs.Starts.{Child, ready-at, as-statement, present-at, sequence-at, parallel-at}
 
@@ -81,7 +81,7 @@ no-pauses : (X : ℕ) (p q : Statement) → p ≡ q → pauses q ≡ 0 → X int
 unfolding _intersect_
 no-pauses X p q e h = ap (λ (z : Statement). bitAnd X (pauses z)) e ∙ ap (bitAnd X) h ∙ and-zero-r X
 
-module _ {xs ends : List ℕ} {at : ℕ} (ready : Ready xs ends at) (X E : ℕ) where
+module _ {xs ends : List ℕ} {at : ℕ} (ready : Startable xs ends at) (X E : ℕ) where
   -- ---- statements that have no pause
   module _ (a : List ℕ) (base need : ℕ) (h : base ≤ length a) where
     without-pauses : (q : Statement) → placeAt xs at ≡ placed q (at + 1) → pauses q ≡ 0 → Made a a base need (capped (partAt xs at) (resumed X) E) 0
@@ -103,15 +103,11 @@ module _ {xs ends : List ℕ} {at : ℕ} (ready : Ready xs ends at) (X E : ℕ) 
     unfolding pauses
     resumed-exit e = without-pauses (exit (operandOf (getD xs at 0))) (is-exit (ready .whole) e) refl
 
-    pub resumed-unused : 10 < kindOfNode (getD xs at 0) → Made a a base need (capped (partAt xs at) (resumed X) E) 0
-    unfolding pauses
-    resumed-unused k = without-pauses nothing (is-unused (ready .whole) k) refl
-
   -- ---- the others
   module _ {a b : List ℕ} {base n : ℕ} where
-    pub resumed-pause : kindOfNode (getD xs at 0) ≡ 1 → (X intersect pauses (partAt xs at) ≡ 0 → ⊥) → Made a b base (base + 2) (some (packed 0 0 ∷ [])) n
+    pub resumed-pause : kindOfNode (getD xs at 0) ≡ 1 → (X intersect pauses (partAt xs at) ≡ 0 → ⊥) → Made a b base (base + 2) (some (one (reaction 0 0 0))) n
         → Made a b base (base + roomFor (partAt xs at)) (capped (partAt xs at) (resumed X) E) n
-    unfolding capped pauses packed
+    unfolding capped pauses
     resumed-pause e h m =
         let l = operandOf (getD xs at 0) in
         let p : partAt xs at ≡ pause l = ap (λ (q : Placed). q .statement) (is-pause (ready .whole) e) in

@@ -15,33 +15,32 @@ use Rattle.table.specs.Reading.{kindOfNode, operandOf}
 use Rattle.table.specs.inner.Places.{Placed, placed}
 use Rattle.area.specs.declared.Change.the-variants.{Hide, Going, Caught}
 use Rattle.area.specs.declared.Pairing.the-variants.{Parallel}
-use Rattle.area.specs.Rules.{change, product}
-use Rattle.area.specs.Area.{packed, Made}
-use Rattle.sets.proofs.Words.{only-word}
-use Rattle.area.proofs.Rows.{packed-made}
+use Rattle.area.specs.inner.Rules.{change, product}
+use Rattle.area.specs.inner.Area.{Made}
+use Rattle.sets.proofs.Members.{only-fits}
 use Rattle.area.proofs.Made.{made-as, made-need, made-empty}
 use Rattle.list.specs.inner.Capped.{changeIn, joinIn, unionIn, followIn, capped}
-use Rattle.list.specs.inner.Notes.{placeAt, partAt, Whole, EndsFrom, Ready}
+use Rattle.list.specs.inner.Notes.{placeAt, partAt, ReadWhole, EndsFrom, Startable}
 use Rattle.list.specs.inner.Joins.{roomFor}
-use Rattle.list.proofs.Nodes.{One, Two, before-end, is-nothing, is-pause, is-gotopause, is-emit, is-exit, is-signal, is-present, is-sequence, is-parallel, is-loop, is-try, is-unused}
+use Rattle.list.proofs.Nodes.{One, Two, before-end, is-nothing, is-pause, is-gotopause, is-emit, is-exit, is-signal, is-present, is-sequence, is-parallel, is-loop, is-try}
 use Rattle.list.proofs.Joins.{hide-is, going-is, caught-is, together-is}
 
 -- ---- the children can be listed too
 -- a child stands at i
 pub record Child (n : ℕ) (xs : List ℕ) (at i : ℕ) : Type 0 where
-  pub whole : Whole n xs i
+  pub whole : ReadWhole n xs i
   pub less : depth (partAt xs i) < depth (partAt xs at)
 
-abbrev pub ready-at : {xs ends : List ℕ} {at i : ℕ} (r : Ready xs ends at) → Child (r .count) xs at i → Ready xs ends i
-ready-at r k = record { count = r .count; few = r .few; right = r .right; narrow = r .narrow; whole = k .whole }
+abbrev pub ready-at : {xs ends : List ℕ} {at i : ℕ} (r : Startable xs ends at) → Child (r .count) xs at i → Startable xs ends i
+ready-at r k = record { count = r .count; few = r .few; right = r .right; narrow = r .narrow; known = r .known; whole = k .whole }
 
-pub place-few : {xs ends : List ℕ} {at : ℕ} → Ready xs ends at → at < 1024
+pub place-few : {xs ends : List ℕ} {at : ℕ} → Startable xs ends at → at < 1024
 place-few r = let f = r .few in let b = before-end (r .whole) in omega arith
 
-pub emits-narrow : {xs ends : List ℕ} {at : ℕ} → Ready xs ends at → kindOfNode (getD xs at 0) ≡ 3 → operandOf (getD xs at 0) < 32
+pub emits-narrow : {xs ends : List ℕ} {at : ℕ} → Startable xs ends at → kindOfNode (getD xs at 0) ≡ 3 → operandOf (getD xs at 0) < 32
 emits-narrow {xs} {ends} {at} r e = r .narrow at (before-end (r .whole)) e
 
-module _ {xs ends : List ℕ} {at : ℕ} (r : Ready xs ends at) where
+module _ {xs ends : List ℕ} {at : ℕ} (r : Startable xs ends at) where
   only-child : {f : Statement → Statement} → One (r .count) xs at f → Child (r .count) xs at (at + 1)
   only-child o = record { whole = o .first; less = o .less }
 
@@ -100,40 +99,32 @@ module _ {xs ends : List ℕ} {at : ℕ} (r : Ready xs ends at) where
 pub as-statement : {a b : List ℕ} {base need n : ℕ} (x : State) (E : ℕ) {p q : Statement} → Made a b base need (capped q x E) n → p ≡ q → Made a b base need (capped p x E) n
 as-statement x E m e = made-as m (ap (λ (z : Statement). capped z x E) (sym e))
 
-pause-word : (x l w : ℕ) → l ≡ operandOf x → w ≡ only l % 2 ^ 64 → packed 1 w ≡ reaction 0 1 (only (operandOf x))
-unfolding packed
-pause-word x l w e f = ap (λ (z : ℕ). reaction 0 1 z) (f ∙ only-word 64 l (omega arith) ∙ ap only e)
-
-module _ {xs ends : List ℕ} {at : ℕ} (ready : Ready xs ends at) {a b : List ℕ} {base n : ℕ} (E : ℕ) where
+module _ {xs ends : List ℕ} {at : ℕ} (ready : Startable xs ends at) {a b : List ℕ} {base n : ℕ} (E : ℕ) where
   -- ---- statements without children
   made-leaf : (p : Statement) → placeAt xs at ≡ placed p (at + 1) → Made a b base (base + 2) (capped p start E) n → Made a b base (base + roomFor (partAt xs at)) (capped (partAt xs at) start E) n
   made-leaf p e m = made-need (base + roomFor (partAt xs at)) (as-statement start E m (ap (λ (q : Placed). q .statement) e)) (omega arith)
 
-  pub list-nothing : kindOfNode (getD xs at 0) ≡ 0 → Made a b base (base + 2) (some (packed 0 0 ∷ [])) n → Made a b base (base + roomFor (partAt xs at)) (capped (partAt xs at) start E) n
-  unfolding capped packed
+  pub list-nothing : kindOfNode (getD xs at 0) ≡ 0 → Made a b base (base + 2) (some (one (reaction 0 0 0))) n → Made a b base (base + roomFor (partAt xs at)) (capped (partAt xs at) start E) n
+  unfolding capped
   list-nothing e m = made-leaf nothing (is-nothing (ready .whole) e) m
 
-  pub list-unused : 10 < kindOfNode (getD xs at 0) → Made a b base (base + 2) (some (packed 0 0 ∷ [])) n → Made a b base (base + roomFor (partAt xs at)) (capped (partAt xs at) start E) n
-  unfolding capped packed
-  list-unused h m = made-leaf nothing (is-unused (ready .whole) h) m
-
-  pub list-pause : kindOfNode (getD xs at 0) ≡ 1 → (l w : ℕ) → l ≡ operandOf (getD xs at 0) → w ≡ only l % 2 ^ 64 → Made a b base (base + 2) (some (packed 1 w ∷ [])) n → Made a b base (base + roomFor (partAt xs at)) (capped (partAt xs at) start E) n
+  pub list-pause : kindOfNode (getD xs at 0) ≡ 1 → (l : ℕ) → l ≡ operandOf (getD xs at 0) → Made a b base (base + 2) (capped (pause l) start 0) n
+      → Made a b base (base + roomFor (partAt xs at)) (capped (partAt xs at) start E) n
   unfolding capped
-  list-pause e l w f g m = made-leaf (pause (operandOf (getD xs at 0))) (is-pause (ready .whole) e) (made-as m (ap (λ (y : Reaction). some (one y)) (pause-word (getD xs at 0) l w f g)))
+  list-pause e l f m = made-leaf (pause l) (is-pause (ready .whole) e ∙ ap (λ (z : ℕ). placed (pause z) (at + 1)) (sym f)) m
 
-  pub list-gotopause : kindOfNode (getD xs at 0) ≡ 2 → (l w : ℕ) → l ≡ operandOf (getD xs at 0) → w ≡ only l % 2 ^ 64 → Made a b base (base + 2) (some (packed 1 w ∷ [])) n → Made a b base (base + roomFor (partAt xs at)) (capped (partAt xs at) start E) n
+  pub list-gotopause : kindOfNode (getD xs at 0) ≡ 2 → (l : ℕ) → l ≡ operandOf (getD xs at 0) → Made a b base (base + 2) (capped (pause l) start 0) n
+      → Made a b base (base + roomFor (partAt xs at)) (capped (partAt xs at) start E) n
   unfolding capped
-  list-gotopause e l w f g m = made-leaf (gotopause (operandOf (getD xs at 0))) (is-gotopause (ready .whole) e) (made-as m (ap (λ (y : Reaction). some (one y)) (pause-word (getD xs at 0) l w f g)))
+  list-gotopause e l f m = made-leaf (gotopause l) (is-gotopause (ready .whole) e ∙ ap (λ (z : ℕ). placed (gotopause z) (at + 1)) (sym f)) m
 
   pub list-emit : kindOfNode (getD xs at 0) ≡ 3 → (S : ℕ) → S ≡ operandOf (getD xs at 0) → Made a b base (base + 2) (capped (emit S) start E) n → Made a b base (base + roomFor (partAt xs at)) (capped (partAt xs at) start E) n
   list-emit e S f m = made-leaf (emit S) (is-emit (ready .whole) e ∙ ap (λ (z : ℕ). placed (emit z) (at + 1)) (sym f)) m
 
-  pub list-exit : kindOfNode (getD xs at 0) ≡ 4 → (d w : ℕ) → d ≡ operandOf (getD xs at 0) → w ≡ codeOf d → Made a b base (base + 2) (some (packed w 0 ∷ [])) n → Made a b base (base + roomFor (partAt xs at)) (capped (partAt xs at) start E) n
-  unfolding capped codeOf
-  list-exit e d w f g m =
-      let z : w ≡ 0 * 256 + suc (operandOf (getD xs at 0)) = omega arith in
-      let r : packed w 0 ≡ reaction 0 (suc (operandOf (getD xs at 0))) 0 = ap (λ (y : ℕ). packed y 0) z ∙ packed-made 0 (suc (operandOf (getD xs at 0))) 0 (omega arith) in
-      made-leaf (exit (operandOf (getD xs at 0))) (is-exit (ready .whole) e) (made-as m (ap (λ (y : Reaction). some (one y)) r))
+  pub list-exit : kindOfNode (getD xs at 0) ≡ 4 → (d : ℕ) → d ≡ operandOf (getD xs at 0) → Made a b base (base + 2) (capped (exit d) start 0) n
+      → Made a b base (base + roomFor (partAt xs at)) (capped (partAt xs at) start E) n
+  unfolding capped
+  list-exit e d f m = made-leaf (exit d) (is-exit (ready .whole) e ∙ ap (λ (z : ℕ). placed (exit z) (at + 1)) (sym f)) m
 
   -- ---- statements with one child
   module _ {need : ℕ} where
@@ -189,9 +180,19 @@ pub emit-none : (a : List ℕ) (base E S : ℕ) → base ≤ length a → has E 
 unfolding capped
 emit-none a base E S h e = made-need (base + 2) (made-as (made-empty a base h) (ap (λ (z : Bool). some (onlyIf z (one (reaction (only S) 0 0)))) (sym e))) (omega arith)
 
-pub emit-one : {a b : List ℕ} {base n : ℕ} (E S w : ℕ) → S < 64 → w ≡ only S % 2 ^ 64 → has E S ≡ true → Made a b base (base + 2) (some (packed (w * 256) 0 ∷ [])) n → Made a b base (base + 2) (capped (emit S) start E) n
+pub emit-one : {a b : List ℕ} {base n : ℕ} (E S w : ℕ) → S < 64 → w ≡ only S % 2 ^ 64 → has E S ≡ true → Made a b base (base + 2) (some (one (reaction w 0 0))) n
+    → Made a b base (base + 2) (capped (emit S) start E) n
 unfolding capped
 emit-one E S w h f e m =
-    let z : w * 256 ≡ w * 256 + 0 = omega arith in
-    let r : packed (w * 256) 0 ≡ reaction (only S) 0 0 = ap (λ (y : ℕ). packed y 0) z ∙ packed-made w 0 0 (omega arith) ∙ ap (λ (y : ℕ). reaction y 0 0) (f ∙ only-word 64 S h) in
-    made-as m (ap (λ (y : Reaction). some (one y)) r ∙ ap (λ (z : Bool). some (onlyIf z (one (reaction (only S) 0 0)))) (sym e))
+    made-as m (ap (λ (y : ℕ). some (one (reaction y 0 0))) (f ∙ only-fits 64 S h) ∙ ap (λ (z : Bool). some (onlyIf z (one (reaction (only S) 0 0)))) (sym e))
+
+-- ---- pause, gotopause and exit
+pub pause-one : {a b : List ℕ} {base n : ℕ} (l w : ℕ) → l < 64 → w ≡ only l % 2 ^ 64 → Made a b base (base + 2) (some (one (reaction 0 1 w))) n
+    → Made a b base (base + 2) (capped (pause l) start 0) n
+unfolding capped
+pause-one l w h f m = made-as m (ap (λ (y : ℕ). some (one (reaction 0 1 y))) (f ∙ only-fits 64 l h))
+
+pub exit-one : {a b : List ℕ} {base n : ℕ} (d k : ℕ) → k ≡ codeOf d → Made a b base (base + 2) (some (one (reaction 0 k 0))) n
+    → Made a b base (base + 2) (capped (exit d) start 0) n
+unfolding capped
+exit-one d k f m = made-as m (ap (λ (y : ℕ). some (one (reaction 0 y 0))) f)

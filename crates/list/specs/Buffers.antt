@@ -1,12 +1,12 @@
 -- The three result buffers after list: the reactions in front, "places past it are untouched".
 use mathlib.Core.Path.{_≡_}
 use mathlib.Core.List.{List, [], _∷_, _++_, map}
-use Prim.Native.Nat.{ℕ}
+use Prim.Native.Nat.{ℕ, _/_}
 use lib.ListN.{length, drop}
 use Rattle.esterel.specs.Reactions.{Reaction}
 use Rattle.list.specs.declared.Answer.{Answer}
 use Rattle.table.specs.Bits.{bytes}
-use Rattle.list.specs.Answers.{Listing, written, listingOutcome, answerOutcome}
+use Rattle.list.specs.Answers.{Listing, listOf, written, listingOutcome, answerOutcome}
 
 abbrev pub emittedIn : Reaction → ℕ
 emittedIn r = r .emitted
@@ -39,3 +39,10 @@ pub record DeliveredBytes (v : Listing) (r : Answer) (o o′ k k′ l l′ : Lis
   pub signals : o′ ≡ front (spread 4 (map emittedIn (written v))) o
   pub codes : k′ ≡ front (map codeIn (written v)) k
   pub labels : l′ ≡ front (spread 8 (map reachedIn (written v))) l
+
+-- what list does with the bytes t, under E, in the state of a mark and a label set: into buffers of numbers, and of bytes
+abbrev pub Lists : List ℕ → ℕ → ℕ → ℕ → Answer → List ℕ → List ℕ → List ℕ → List ℕ → List ℕ → List ℕ → Type 0
+Lists t E mark X r o o′ k k′ l l′ = Delivered (listOf t E mark X (length o) (length k) (length l)) r o o′ k k′ l l′
+
+abbrev pub ListsBytes : List ℕ → ℕ → ℕ → ℕ → Answer → List ℕ → List ℕ → List ℕ → List ℕ → List ℕ → List ℕ → Type 0
+ListsBytes t E mark X r o o′ k k′ l l′ = DeliveredBytes (listOf t E mark X (length o / 4) (length k) (length l / 8)) r o o′ k k′ l l′

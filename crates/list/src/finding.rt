@@ -5,29 +5,36 @@ use crate::marking;
 use crate::reacting::resume;
 use crate::reacting::start;
 use table::Checked;
+use table::MOST_NODES;
+ghost use mathlib.Core.Path.{_≡_};
 ghost use Prim.Native.Nat.{_+_, _*_, _≤_};
 ghost use lib.ListN.{length};
 ghost use Rattle.table.specs.Reading.{tableOf};
-ghost use Rattle.table.specs.inner.Places.{statementAt};
-ghost use Rattle.area.specs.Area.{Made};
+ghost use Rattle.table.specs.inner.Places.{statementOf, Known};
+ghost use Rattle.area.specs.inner.Area.{Made};
 ghost use Rattle.list.specs.inner.Capped.{capped};
-ghost use Rattle.list.specs.inner.Notes.{Sound, Resumable, Copied};
-ghost use Rattle.list.specs.Answers.{stateOf, reactionsOf, foundIn};
+ghost use Rattle.list.specs.inner.Notes.{Counted, Resumable, Copied};
+ghost use Rattle.list.specs.Answers.{stateOf, listFor, listIn};
 ghost use Rattle.list.specs.inner.Finding.{Finds};
 
-// The reactions of the statement of marked nodes in the state of a mark and labels, as reacting leaves them. An area of 7,940
-// words is never too small.
+// The most signal statements inside one another.
+const MOST_NESTED: u8 = 12;
+
+// The words of an area that is never too small.
+const LARGE: usize = 7940;
+
+// The reactions of the statement of marked nodes in the state of a mark and labels, as reacting leaves them.
 pub fn reactions(
-    nodes: &[u16; 1024],
-    ends: &[u16; 1024],
-    pauses: &[u64; 1024],
+    nodes: &[u16; MOST_NODES],
+    ends: &[u16; MOST_NODES],
+    pauses: &[u64; MOST_NODES],
     assumed: u64,
     mark: u32,
     labels: u64,
     area: &mut [u64],
 ) -> usize
     requires { ⌜ Resumable (now nodes) (now ends) (now pauses) 0 ⌝ }
-    ensures { λ r. ⌜ Made (now (area .entry)) (now (area .exit)) 0 7940 (capped (statementAt 60 (now (nodes .entry)) 0 .statement) (stateOf mark labels) assumed) r ⌝ }
+    ensures { λ r. ⌜ Made (now (area .entry)) (now (area .exit)) 0 7940 (capped (statementOf (now (nodes .entry))) (stateOf mark labels) assumed) r ⌝ }
 {
     if mark == 0 {
         return start(nodes, ends, 0, assumed, area, 0);
@@ -40,7 +47,7 @@ fn copy(large: &[u64], n: usize, area: &mut [u64])
     requires { ⌜ (n ≤ 64 → 2 * n ≤ length (now large)) × (128 ≤ length (now area)) ⌝ }
     ensures { λ _. ⌜ Copied (now (large .entry)) (now (area .entry)) (now (area .exit)) n ⌝ }
 {
-    if 64 < n {
+    if area::MOST < n {
         return;
     }
     let words = 2 * n;
@@ -53,9 +60,9 @@ fn copy(large: &[u64], n: usize, area: &mut [u64])
 
 // The same through an area that is large enough.
 fn reactions_through(
-    nodes: &[u16; 1024],
-    ends: &[u16; 1024],
-    pauses: &[u64; 1024],
+    nodes: &[u16; MOST_NODES],
+    ends: &[u16; MOST_NODES],
+    pauses: &[u64; MOST_NODES],
     assumed: u64,
     mark: u32,
     labels: u64,
@@ -63,7 +70,7 @@ fn reactions_through(
     large: &mut [u64],
 ) -> usize
     requires { ⌜ (128 ≤ length (now area)) × (7940 ≤ length (now large)) × Resumable (now nodes) (now ends) (now pauses) 0 ⌝ }
-    ensures { λ r. ⌜ Made (now (area .entry)) (now (area .exit)) 0 0 (capped (statementAt 60 (now (nodes .entry)) 0 .statement) (stateOf mark labels) assumed) r ⌝ }
+    ensures { λ r. ⌜ Made (now (area .entry)) (now (area .exit)) 0 0 (capped (statementOf (now (nodes .entry))) (stateOf mark labels) assumed) r ⌝ }
 {
     let n = reactions(nodes, ends, pauses, assumed, mark, labels, large);
     copy(large, n, area);
@@ -71,36 +78,36 @@ fn reactions_through(
 }
 
 fn reactions_large(
-    nodes: &[u16; 1024],
-    ends: &[u16; 1024],
-    pauses: &[u64; 1024],
+    nodes: &[u16; MOST_NODES],
+    ends: &[u16; MOST_NODES],
+    pauses: &[u64; MOST_NODES],
     assumed: u64,
     mark: u32,
     labels: u64,
     area: &mut [u64],
 ) -> usize
     requires { ⌜ (128 ≤ length (now area)) × Resumable (now nodes) (now ends) (now pauses) 0 ⌝ }
-    ensures { λ r. ⌜ Made (now (area .entry)) (now (area .exit)) 0 0 (capped (statementAt 60 (now (nodes .entry)) 0 .statement) (stateOf mark labels) assumed) r ⌝ }
+    ensures { λ r. ⌜ Made (now (area .entry)) (now (area .exit)) 0 0 (capped (statementOf (now (nodes .entry))) (stateOf mark labels) assumed) r ⌝ }
 {
-    let mut large = [0u64; 7940];
+    let mut large = [0u64; LARGE];
     reactions_through(nodes, ends, pauses, assumed, mark, labels, area, &mut large)
 }
 
 // The same in an area of any size from 128 words on.
 pub fn reactions_in(
-    nodes: &[u16; 1024],
-    ends: &[u16; 1024],
-    pauses: &[u64; 1024],
+    nodes: &[u16; MOST_NODES],
+    ends: &[u16; MOST_NODES],
+    pauses: &[u64; MOST_NODES],
     assumed: u64,
     mark: u32,
     labels: u64,
     area: &mut [u64],
 ) -> usize
     requires { ⌜ (128 ≤ length (now area)) × Resumable (now nodes) (now ends) (now pauses) 0 ⌝ }
-    ensures { λ r. ⌜ Made (now (area .entry)) (now (area .exit)) 0 0 (capped (statementAt 60 (now (nodes .entry)) 0 .statement) (stateOf mark labels) assumed) r ⌝ }
+    ensures { λ r. ⌜ Made (now (area .entry)) (now (area .exit)) 0 0 (capped (statementOf (now (nodes .entry))) (stateOf mark labels) assumed) r ⌝ }
 {
     let n = reactions(nodes, ends, pauses, assumed, mark, labels, area);
-    if n <= 65 {
+    if n <= area::OVER {
         return n;
     }
     reactions_large(nodes, ends, pauses, assumed, mark, labels, area)
@@ -108,25 +115,32 @@ pub fn reactions_in(
 
 // The reactions of decoded nodes, with room lent for the notes of each.
 fn find_marked(
-    nodes: &[u16; 1024],
+    nodes: &[u16; MOST_NODES],
     count: usize,
     assumed: u32,
     mark: u32,
     labels: u64,
     area: &mut [u64],
-    ends: &mut [u16; 1024],
-    nests: &mut [u8; 1024],
-    pauses: &mut [u64; 1024],
+    ends: &mut [u16; MOST_NODES],
+    nests: &mut [u8; MOST_NODES],
+    pauses: &mut [u64; MOST_NODES],
 ) -> Answer
-    requires { ⌜ Sound (now nodes) count × (128 ≤ length (now area)) ⌝ }
-    ensures { λ r. ⌜ Finds (reactionsOf (statementAt 60 (now (nodes .entry)) 0 .statement) (stateOf mark labels) assumed) r (now (area .entry)) (now (area .exit)) ⌝ }
+    requires { ⌜ Counted (now nodes) count × (128 ≤ length (now area)) ⌝ }
+    ensures { λ r. ⌜ Finds (listFor (statementOf (now (nodes .entry))) (stateOf mark labels) assumed) r (now (area .entry)) (now (area .exit)) ⌝ }
 {
     marking::mark_front(nodes, count, ends, nests, pauses);
-    if 12 < nests[0] {
+    let nest = nests[0];
+    if nest == marking::REFUSED {
+        return Answer::Refused(table::NO_KIND);
+    }
+    if MOST_NESTED < nest {
         return Answer::Refused(14);
     }
     let n = reactions_in(nodes, ends, pauses, assumed as u64, mark, labels, area);
-    if n > 64 {
+    if n == area::REFUSED {
+        return Answer::Refused(table::NO_KIND);
+    }
+    if n > area::MOST {
         return Answer::Refused(15);
     }
     Answer::Listed(n as u32)
@@ -134,19 +148,19 @@ fn find_marked(
 
 // The reactions of decoded nodes.
 pub fn find_nodes(
-    nodes: &[u16; 1024],
+    nodes: &[u16; MOST_NODES],
     count: usize,
     assumed: u32,
     mark: u32,
     labels: u64,
     area: &mut [u64],
 ) -> Answer
-    requires { ⌜ Sound (now nodes) count × (128 ≤ length (now area)) ⌝ }
-    ensures { λ r. ⌜ Finds (reactionsOf (statementAt 60 (now (nodes .entry)) 0 .statement) (stateOf mark labels) assumed) r (now (area .entry)) (now (area .exit)) ⌝ }
+    requires { ⌜ Counted (now nodes) count × (128 ≤ length (now area)) ⌝ }
+    ensures { λ r. ⌜ Finds (listFor (statementOf (now (nodes .entry))) (stateOf mark labels) assumed) r (now (area .entry)) (now (area .exit)) ⌝ }
 {
-    let mut ends = [0u16; 1024];
-    let mut nests = [0u8; 1024];
-    let mut pauses = [0u64; 1024];
+    let mut ends = [0u16; MOST_NODES];
+    let mut nests = [0u8; MOST_NODES];
+    let mut pauses = [0u64; MOST_NODES];
     find_marked(
         nodes,
         count,
@@ -167,10 +181,10 @@ fn find_loaded(
     mark: u32,
     labels: u64,
     area: &mut [u64],
-    nodes: &mut [u16; 1024],
+    nodes: &mut [u16; MOST_NODES],
 ) -> Answer
-    requires { ⌜ 128 ≤ length (now area) ⌝ }
-    ensures { λ r. ⌜ Finds (foundIn (tableOf (now (table .entry))) assumed mark labels) r (now (area .entry)) (now (area .exit)) ⌝ }
+    requires { ⌜ (128 ≤ length (now area)) × (length (now nodes) ≡ 1024) × Known (now nodes) ⌝ }
+    ensures { λ r. ⌜ Finds (listIn (tableOf (now (table .entry))) assumed mark labels) r (now (area .entry)) (now (area .exit)) ⌝ }
 {
     let checked = table::load(table, nodes);
     let Checked::Accepted(n) = checked else {
@@ -182,8 +196,8 @@ fn find_loaded(
 // The reactions of a table, left in front of an area.
 pub fn find(table: &[u8], assumed: u32, mark: u32, labels: u64, area: &mut [u64]) -> Answer
     requires { ⌜ 128 ≤ length (now area) ⌝ }
-    ensures { λ r. ⌜ Finds (foundIn (tableOf (now (table .entry))) assumed mark labels) r (now (area .entry)) (now (area .exit)) ⌝ }
+    ensures { λ r. ⌜ Finds (listIn (tableOf (now (table .entry))) assumed mark labels) r (now (area .entry)) (now (area .exit)) ⌝ }
 {
-    let mut nodes = [0u16; 1024];
+    let mut nodes = [0u16; MOST_NODES];
     find_loaded(table, assumed, mark, labels, area, &mut nodes)
 }

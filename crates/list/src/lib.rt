@@ -11,10 +11,14 @@ mod reacting;
 mod writing;
 
 ghost use mathlib.Core.Path.{_≡_};
-ghost use Prim.Native.Nat.{_/_, _≤_};
+ghost use Prim.Native.Nat.{_≤_};
 ghost use lib.ListN.{length};
-ghost use Rattle.list.specs.Answers.{listOf, refusalOf};
-ghost use Rattle.list.specs.Buffers.{Delivered, DeliveredBytes};
+ghost use Rattle.table.specs.Outcomes.{numberOf};
+ghost use Rattle.list.specs.Answers.{answerOutcome};
+ghost use Rattle.list.specs.Buffers.{Lists, ListsBytes};
+
+// The words of the area that is tried first.
+const SMALL: usize = 512;
 
 // List's answer: the number of the refusal, or how many reactions there are.
 pub enum Answer {
@@ -24,7 +28,7 @@ pub enum Answer {
 
 // Document 01's number for an answer of list: the refusal, 0 where the count is given.
 pub fn refusal(answer: Answer) -> u8
-    ensures { λ r. ⌜ r ≡ refusalOf answer ⌝ }
+    ensures { λ r. ⌜ r ≡ numberOf (answerOutcome answer) ⌝ }
 {
     match answer {
         Answer::Refused(why) => why,
@@ -43,7 +47,7 @@ fn list_through(
     area: &mut [u64],
 ) -> Answer
     requires { ⌜ 128 ≤ length (now area) ⌝ }
-    ensures { λ r. ⌜ Delivered (listOf (now (table .entry)) assumed mark labels (length (now (o .entry))) (length (now (k .entry))) (length (now (l .entry)))) r (now (o .entry)) (now (o .exit)) (now (k .entry)) (now (k .exit)) (now (l .entry)) (now (l .exit)) ⌝ }
+    ensures { λ r. ⌜ Lists (now (table .entry)) assumed mark labels r (now (o .entry)) (now (o .exit)) (now (k .entry)) (now (k .exit)) (now (l .entry)) (now (l .exit)) ⌝ }
 {
     let answer = finding::find(table, assumed, mark, labels, area);
     let Answer::Listed(n) = answer else {
@@ -62,9 +66,9 @@ pub fn list(
     k: &mut [u8],
     l: &mut [u64],
 ) -> Answer
-    ensures { λ r. ⌜ Delivered (listOf (now (table .entry)) assumed mark labels (length (now (o .entry))) (length (now (k .entry))) (length (now (l .entry)))) r (now (o .entry)) (now (o .exit)) (now (k .entry)) (now (k .exit)) (now (l .entry)) (now (l .exit)) ⌝ }
+    ensures { λ r. ⌜ Lists (now (table .entry)) assumed mark labels r (now (o .entry)) (now (o .exit)) (now (k .entry)) (now (k .exit)) (now (l .entry)) (now (l .exit)) ⌝ }
 {
-    let mut area = [0u64; 512];
+    let mut area = [0u64; SMALL];
     list_through(table, assumed, mark, labels, o, k, l, &mut area)
 }
 
@@ -79,7 +83,7 @@ fn list_bytes_through(
     area: &mut [u64],
 ) -> Answer
     requires { ⌜ 128 ≤ length (now area) ⌝ }
-    ensures { λ r. ⌜ DeliveredBytes (listOf (now (table .entry)) assumed mark labels (length (now (o .entry)) / 4) (length (now (k .entry))) (length (now (l .entry)) / 8)) r (now (o .entry)) (now (o .exit)) (now (k .entry)) (now (k .exit)) (now (l .entry)) (now (l .exit)) ⌝ }
+    ensures { λ r. ⌜ ListsBytes (now (table .entry)) assumed mark labels r (now (o .entry)) (now (o .exit)) (now (k .entry)) (now (k .exit)) (now (l .entry)) (now (l .exit)) ⌝ }
 {
     let answer = finding::find(table, assumed, mark, labels, area);
     let Answer::Listed(n) = answer else {
@@ -98,8 +102,8 @@ pub fn list_bytes(
     k: &mut [u8],
     l: &mut [u8],
 ) -> Answer
-    ensures { λ r. ⌜ DeliveredBytes (listOf (now (table .entry)) assumed mark labels (length (now (o .entry)) / 4) (length (now (k .entry))) (length (now (l .entry)) / 8)) r (now (o .entry)) (now (o .exit)) (now (k .entry)) (now (k .exit)) (now (l .entry)) (now (l .exit)) ⌝ }
+    ensures { λ r. ⌜ ListsBytes (now (table .entry)) assumed mark labels r (now (o .entry)) (now (o .exit)) (now (k .entry)) (now (k .exit)) (now (l .entry)) (now (l .exit)) ⌝ }
 {
-    let mut area = [0u64; 512];
+    let mut area = [0u64; SMALL];
     list_bytes_through(table, assumed, mark, labels, o, k, l, &mut area)
 }

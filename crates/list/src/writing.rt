@@ -2,38 +2,38 @@
 use crate::Answer;
 ghost use mathlib.Core.Path.{_≡_};
 ghost use mathlib.Core.List.{map};
-ghost use Prim.Native.Nat.{_+_, _*_, _/_, _≤_, _<_};
+ghost use Prim.Native.Nat.{_*_, _≤_};
 ghost use lib.ListN.{length};
-ghost use Rattle.area.specs.Area.{rows};
-ghost use Rattle.list.specs.Answers.{found, fitted};
-ghost use Rattle.list.specs.Buffers.{emittedOf, codesOf, reachedOf, front, spread, Delivered, DeliveredBytes};
-ghost use Rattle.list.specs.inner.Finding.{Small, Spelt};
+ghost use Rattle.area.specs.inner.Area.{rows};
+ghost use Rattle.list.specs.Buffers.{emittedIn, codeIn, reachedIn, front, spread};
+ghost use Rattle.list.specs.inner.Finding.{Small, DeliversRows, DeliversBytes};
 
 fn fill_signals(area: &[u64], n: usize, o: &mut [u32])
     requires { ⌜ (2 * n ≤ length (now area)) × (n ≤ length (now o)) × Small n (now area) ⌝ }
-    ensures { λ _. ⌜ now (o .exit) ≡ front (map emittedOf (rows (now (area .entry)) 0 n)) (now (o .entry)) ⌝ }
+    ensures { λ _. ⌜ now (o .exit) ≡ front (map emittedIn (rows (now (area .entry)) 0 n)) (now (o .entry)) ⌝ }
 {
     let mut i = 0;
     while i < n {
-        o[i] = (area[2 * i] / 256) as u32;
+        o[i] = area::emitted_in(area[2 * i]) as u32;
         i += 1;
     }
 }
 
 fn fill_codes(area: &[u64], n: usize, k: &mut [u8])
     requires { ⌜ (2 * n ≤ length (now area)) × (n ≤ length (now k)) ⌝ }
-    ensures { λ _. ⌜ now (k .exit) ≡ front (map codesOf (rows (now (area .entry)) 0 n)) (now (k .entry)) ⌝ }
+    ensures { λ _. ⌜ now (k .exit) ≡ front (map codeIn (rows (now (area .entry)) 0 n)) (now (k .entry)) ⌝ }
 {
     let mut i = 0;
     while i < n {
-        k[i] = (area[2 * i] % 256) as u8;
+        let code = area::code_in(area[2 * i]);
+        k[i] = code.0 as u8;
         i += 1;
     }
 }
 
 fn fill_labels(area: &[u64], n: usize, l: &mut [u64])
     requires { ⌜ (2 * n ≤ length (now area)) × (n ≤ length (now l)) ⌝ }
-    ensures { λ _. ⌜ now (l .exit) ≡ front (map reachedOf (rows (now (area .entry)) 0 n)) (now (l .entry)) ⌝ }
+    ensures { λ _. ⌜ now (l .exit) ≡ front (map reachedIn (rows (now (area .entry)) 0 n)) (now (l .entry)) ⌝ }
 {
     let mut i = 0;
     while i < n {
@@ -45,7 +45,7 @@ fn fill_labels(area: &[u64], n: usize, l: &mut [u64])
 // The n reactions of an area as numbers, or refusal 16.
 pub fn deliver(area: &[u64], n: u32, o: &mut [u32], k: &mut [u8], l: &mut [u64]) -> Answer
     requires { ⌜ (2 * n ≤ length (now area)) × Small n (now area) ⌝ }
-    ensures { λ r. ⌜ Delivered (fitted (length (now (o .entry))) (length (now (k .entry))) (length (now (l .entry))) (found (rows (now (area .entry)) 0 n))) r (now (o .entry)) (now (o .exit)) (now (k .entry)) (now (k .exit)) (now (l .entry)) (now (l .exit)) ⌝ }
+    ensures { λ r. ⌜ DeliversRows (now (area .entry)) n r (now (o .entry)) (now (o .exit)) (now (k .entry)) (now (k .exit)) (now (l .entry)) (now (l .exit)) ⌝ }
 {
     let count = n as usize;
     if o.len() < count {
@@ -63,38 +63,24 @@ pub fn deliver(area: &[u64], n: u32, o: &mut [u32], k: &mut [u8], l: &mut [u64])
     Answer::Listed(n)
 }
 
-// A number in `width` bytes, the least significant last.
-fn spell(value: u64, width: usize, out: &mut [u8], at: usize)
-    requires { ⌜ at + width ≤ length (now out) ⌝ }
-    ensures { λ _. ⌜ Spelt width value at (now (out .entry)) (now (out .exit)) ⌝ }
-{
-    let mut rest = value;
-    let mut i = at + width;
-    while at < i {
-        i -= 1;
-        out[i] = (rest % 256) as u8;
-        rest /= 256;
-    }
-}
-
 fn spell_signals(area: &[u64], n: usize, o: &mut [u8])
     requires { ⌜ (2 * n ≤ length (now area)) × (4 * n ≤ length (now o)) ⌝ }
-    ensures { λ _. ⌜ now (o .exit) ≡ front (spread 4 (map emittedOf (rows (now (area .entry)) 0 n))) (now (o .entry)) ⌝ }
+    ensures { λ _. ⌜ now (o .exit) ≡ front (spread 4 (map emittedIn (rows (now (area .entry)) 0 n))) (now (o .entry)) ⌝ }
 {
     let mut i = 0;
     while i < n {
-        spell(area[2 * i] / 256, 4, o, 4 * i);
+        table::put_bytes(o, 4 * i, area::emitted_in(area[2 * i]), 4);
         i += 1;
     }
 }
 
 fn spell_labels(area: &[u64], n: usize, l: &mut [u8])
     requires { ⌜ (2 * n ≤ length (now area)) × (8 * n ≤ length (now l)) ⌝ }
-    ensures { λ _. ⌜ now (l .exit) ≡ front (spread 8 (map reachedOf (rows (now (area .entry)) 0 n))) (now (l .entry)) ⌝ }
+    ensures { λ _. ⌜ now (l .exit) ≡ front (spread 8 (map reachedIn (rows (now (area .entry)) 0 n))) (now (l .entry)) ⌝ }
 {
     let mut i = 0;
     while i < n {
-        spell(area[2 * i + 1], 8, l, 8 * i);
+        table::put_bytes(l, 8 * i, area[2 * i + 1], 8);
         i += 1;
     }
 }
@@ -102,7 +88,7 @@ fn spell_labels(area: &[u64], n: usize, l: &mut [u8])
 // The n reactions of an area as bytes, or refusal 16; only a whole group of bytes is a place.
 pub fn deliver_bytes(area: &[u64], n: u32, o: &mut [u8], k: &mut [u8], l: &mut [u8]) -> Answer
     requires { ⌜ 2 * n ≤ length (now area) ⌝ }
-    ensures { λ r. ⌜ DeliveredBytes (fitted (length (now (o .entry)) / 4) (length (now (k .entry))) (length (now (l .entry)) / 8) (found (rows (now (area .entry)) 0 n))) r (now (o .entry)) (now (o .exit)) (now (k .entry)) (now (k .exit)) (now (l .entry)) (now (l .exit)) ⌝ }
+    ensures { λ r. ⌜ DeliversBytes (now (area .entry)) n r (now (o .entry)) (now (o .exit)) (now (k .entry)) (now (k .exit)) (now (l .entry)) (now (l .exit)) ⌝ }
 {
     let count = n as usize;
     if o.len() / 4 < count {

@@ -1,5 +1,6 @@
 -- The answer of reach, from what loading and the rounds gave: on an accepted table the buffer holds its statement, so the
--- rounds are those of reach, and the analysis refuses nothing. And the answer loses nothing: s has no higher code.
+-- rounds are those of reach, and the analysis refuses nothing. And the answer loses nothing, since s has no higher code; its
+-- refusals are check's.
 use mathlib.Core.Path.{_≡_, refl, sym, ap, _∙_}
 use mathlib.Core.Bool.{Bool}
 use mathlib.Core.List.{List}
@@ -12,7 +13,7 @@ use Rattle.esterel.proofs.Codes.{codes-equal}
 use Rattle.esterel.proofs.Exits.{valid-exits, no-higher}
 use Rattle.esterel.proofs.Reachability.{rounds-few}
 use Rattle.esterel.proofs.Validity.{valid-levels}
-use Rattle.table.specs.Outcomes.{Outcome, refusal, values, numberOf}
+use Rattle.table.specs.Outcomes.{refusal, values, numberOf}
 use Rattle.table.specs.Reading.{Table, refused, holds, tableOf}
 use Rattle.table.specs.inner.Places.{statementOf}
 use Rattle.table.proofs.Accepted.{accepted}
@@ -27,7 +28,7 @@ use Rattle.reach.specs.inner.Rounds.{Reaches}
 use Rattle.reach.specs.Answers.{reachedOutcome, reachIn, reachOf}
 
 -- ---- The analysis rests
-rest-same : {a b : Settled} → Rest a ≡ Rest b → a ≡ b
+pub rest-same : {a b : Settled} → Rest a ≡ Rest b → a ≡ b
 rest-same e = cc
 
 pub never-refused : (xs : List ℕ) (r : Analysed) → Reaches xs r → r ≡ analysed.Refused → ⊥

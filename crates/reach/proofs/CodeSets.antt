@@ -9,10 +9,9 @@ use native.Mathlib.Omega.{arith}
 use lib.Bits.{bitOr, bitAnd, and-mask, or-shr, or-block, or-zero-l}
 use lib.Count.{trailingZeros, under}
 use lib.Dec.{eqb}
-use lib.Pow.{pow-lt}
 use Rattle.sets.specs.Set.{has, only, _union_}
 use Rattle.sets.proofs.Booleans.{clash, eqb-differ}
-use Rattle.sets.proofs.Members.{has-union, bit}
+use Rattle.sets.proofs.Members.{has-union, bit, only-fits}
 use Rattle.esterel.specs.Codes.{Codes, none, justEnded, justAt, justCode, join, minusZero, throughTry, hasLow, notBelow, noLowerThan}
 use Rattle.esterel.proofs.Codes.{join-none}
 use Rattle.reach.specs.declared.codes.CodeSet.{CodeSet}
@@ -35,7 +34,7 @@ view-ended place e = rw e
 
 one-bit : (w x : ℕ) → x < w → 1 * 2 ^ x % 2 ^ w ≡ only x
 unfolding only
-one-bit w x h = rw (one-mul (2 ^ x)) (mod-eq-of-lt (pow-lt h))
+one-bit w x h = ap (λ (n : ℕ). n % 2 ^ w) (one-mul (2 ^ x)) ∙ only-fits w x h
 
 pub view-at : (l : ℕ) → l < 64 → codesOf (words (1 * 2 ^ l % 2 ^ 64) 0) ≡ justAt l
 unfolding codesOf justAt has

@@ -21,7 +21,7 @@ use Rattle.table.specs.inner.Places.{Placed, statementAt}
 use Rattle.reach.specs.declared.summary.Summary.{Summary}
 use Rattle.reach.specs.inner.CodeSets.{codesOf, flagOf}
 use Rattle.reach.specs.inner.Summaries.{Summable, Summarised}
-use Rattle.reach.specs.inner.Notes.{forChildren, Noted, noteWith, secondOf, endsOf, keptOf, withResumed, withKept, openNote, Opens, NotedChild, From, LeavesNotes, noteOf}
+use Rattle.reach.specs.inner.Notes.{forChildren, Noted, noteWith, secondOf, endsOf, keptOf, withResumed, withKept, openNote, Opens, NotedChild, WritesFrom, LeavesNotes, noteOf}
 use Rattle.reach.proofs.CodeSets.{flag-small}
 use Rattle.table.proofs.Places.{Node, follow, follow-forward, place-next, next-forward, next-within}
 
@@ -110,13 +110,13 @@ module _ (Own Own′ : ℕ → ℕ → Placed → Type 0) (nodes : List ℕ) whe
               )
 
 -- ---- A pass leaves them
-from-same : (at : ℕ) (xs : List ℕ) → From at xs xs
+from-same : (at : ℕ) (xs : List ℕ) → WritesFrom at xs xs
 from-same at xs = record { size = refl; low = λ i h. refl }
 
-from-set : (at : ℕ) (xs : List ℕ) (w : ℕ) (ys : List ℕ) → ys ≡ set xs at w → From at xs ys
-from-set at xs w ys e = subst (From at xs) (sym e) (record { size = length-set xs at w; low = λ i h. getD-set-other xs at i w 0 (λ z. omega arith) })
+from-set : (at : ℕ) (xs : List ℕ) (w : ℕ) (ys : List ℕ) → ys ≡ set xs at w → WritesFrom at xs ys
+from-set at xs w ys e = subst (WritesFrom at xs) (sym e) (record { size = length-set xs at w; low = λ i h. getD-set-other xs at i w 0 (λ z. omega arith) })
 
-from-both : (at u v : ℕ) (xs ys zs : List ℕ) → From u xs ys → From v ys zs → at ≤ u → at ≤ v → From at xs zs
+from-both : (at u v : ℕ) (xs ys zs : List ℕ) → WritesFrom u xs ys → WritesFrom v ys zs → at ≤ u → at ≤ v → WritesFrom at xs zs
 from-both at u v xs ys zs f g a b = record { size = g .size ∙ f .size; low = λ i h. g .low i (omega arith) ∙ f .low i (omega arith) }
 
 opens-stay : (notes endings notes′ endings′ : List ℕ) (i k : ℕ) (p : Placed) → getD notes′ i 0 ≡ getD notes i 0 → getD endings′ i 0 ≡ getD endings i 0
@@ -157,10 +157,10 @@ module _ {left : ℕ} {nodes : List ℕ} {at k : ℕ} (n : Node left nodes at k)
         (ap (λ (l : List ℕ). getD l i 0) (w .note) ∙ getD-set-other notes₁ at i note 0 (λ z. omega arith))
         (ap (λ (l : List ℕ). getD l i 0) (w .ending) ∙ getD-set-other endings₁ at i (P .ending) 0 (λ z. omega arith)))
 
-    notes-two : From at notes notes₂
+    notes-two : WritesFrom at notes notes₂
     notes-two = from-both at (at + 1) at notes notes₁ notes₂ (o .notes-from) (from-set at notes₁ note notes₂ (w .note)) (omega arith) (omega arith)
 
-    endings-two : From at endings endings₂
+    endings-two : WritesFrom at endings endings₂
     endings-two = from-both at (at + 1) at endings endings₁ endings₂ (o .endings-from) (from-set at endings₁ (P .ending) endings₂ (w .ending)) (omega arith) (omega arith)
 
     pub open-one : rowOf (kindOf k) .children ≡ 1 → LeavesNotes left nodes at notes endings notes₂ endings₂

@@ -26,7 +26,7 @@ use Rattle.table.specs.inner.Places.{Placed, statementAt, statementOf, Loaded}
 use Rattle.table.proofs.Places.{next-within}
 use Rattle.reach.specs.declared.Analysed.the-variants.{Rest}
 use Rattle.reach.specs.declared.summary.Summary.{Summary}
-use Rattle.reach.specs.inner.CodeSets.{followedBy}
+use Rattle.reach.specs.inner.CodeSets.{codesOf, followedBy}
 use Rattle.reach.specs.inner.Summaries.{resumedFrom, LabelsFrom, EndsAlone, Summarised}
 use Rattle.reach.specs.inner.Rounds.{Reaches}
 use Rattle.reach.proofs.Summing.{d-followed, d-looped, d-outside}
@@ -191,11 +191,11 @@ pub record Going (p : Statement) (labels set rounds : ℕ) : Type 0 where
 pub few-rounds : (p : Statement) (labels set rounds : ℕ) → Going p labels set rounds → rounds ≤ 64
 few-rounds p labels set rounds g = let c = g .counted in let w = count-width 64 set in omega arith
 
-pub none-yet : (p : Statement) (labels : ℕ) → labels ≡ codes.labels (s p) → Going p labels 0 0
-unfolding afterRounds
-none-yet p labels e = record {
+pub none-yet : (p : Statement) (found : Summary) → codesOf (found .start) ≡ s p → Going p (found .start .labels) 0 0
+unfolding afterRounds codesOf codes.labels
+none-yet p found e = record {
   reached = refl;
-  labelled = e ∙ sym (ap (λ (m : ℕ). codes.labels (s p) union m) (none-resumed p) ∙ union-empty (codes.labels (s p)));
+  labelled = ap (λ (K : Codes). K .pausing) e ∙ sym (ap (λ (m : ℕ). codes.labels (s p) union m) (none-resumed p) ∙ union-empty (codes.labels (s p)));
   added = λ j l. absurd (omega arith);
   counted = omega arith;
 }

@@ -13,18 +13,18 @@ use Rattle.sets.specs.Set.{has, only, _union_, _minus_, _without_, Within}
 use Rattle.sets.proofs.Booleans.{or-left, or-right, or-cases, or-false, and-cases, clash}
 use Rattle.sets.proofs.Members.{has-empty, has-union, has-minus, has-only, has-only-other, has-without-same, has-without-other}
 use Rattle.sets.proofs.Counts.{count, count-without}
-use Rattle.esterel.specs.Codes.{Codes, join, minusZero, throughTry}
+use Rattle.esterel.specs.Codes.{Codes, throughTry}
 use Rattle.reach.specs.declared.codes.CodeSet.{CodeSet}
 use Rattle.reach.specs.inner.CodeSets.{codesOf}
-use Rattle.reach.specs.inner.Summaries.{resumedFrom, stored, Changed, LoweredEach, LabelsFrom, Follows, outline}
+use Rattle.reach.specs.inner.Summaries.{resumedFrom, storedFor, Changed, LoweredEach, LabelsFrom, Follows, outline}
 use Rattle.reach.proofs.CodeSets.{words, and-true, and-false}
 
 -- ---- Storing
 module _ (kept : List ℕ) (l : ℕ) (a : CodeSet) where
-  pub stored-size : length (stored kept l a) ≡ length kept
+  pub stored-size : length (storedFor kept l a) ≡ length kept
   stored-size = length-set (set kept l (a .labels)) (64 + l) (a .codes) ∙ length-set kept l (a .labels)
 
-  pub stored-same : length kept ≡ 128 → l < 64 → resumedFrom (stored kept l a) l ≡ codesOf a
+  pub stored-same : length kept ≡ 128 → l < 64 → resumedFrom (storedFor kept l a) l ≡ codesOf a
   unfolding resumedFrom
   stored-same room b =
       let n = length-set kept l (a .labels) in
@@ -32,7 +32,7 @@ module _ (kept : List ℕ) (l : ℕ) (a : CodeSet) where
       (getD-set-other (set kept l (a .labels)) (64 + l) l (a .codes) 0 (λ e. omega arith) ∙ getD-set-same kept l (a .labels) 0 (omega arith))
       (getD-set-same (set kept l (a .labels)) (64 + l) (a .codes) 0 (omega arith))
 
-  pub stored-other : (x : ℕ) → l < 64 → x < 64 → x ≢ l → resumedFrom (stored kept l a) x ≡ resumedFrom kept x
+  pub stored-other : (x : ℕ) → l < 64 → x < 64 → x ≢ l → resumedFrom (storedFor kept l a) x ≡ resumedFrom kept x
   unfolding resumedFrom
   stored-other x b h n =
       ap₂ (λ (u v : ℕ). codesOf (words u v))
@@ -53,11 +53,7 @@ none-left set l = has-minus set set l ∙ go (has set l)
     go false = refl
 
 all-done : (set rest l : ℕ) → rest ≡ 0 → has (set minus rest) l ≡ has set l
-all-done set rest l e = has-minus set rest l ∙ ap (λ (z : Bool). has set l && not z) (ap (λ (m : ℕ). has m l) e ∙ has-empty l) ∙ go (has set l)
-  where
-    go : (z : Bool) → (z && true) ≡ z
-    go true = refl
-    go false = refl
+all-done set rest l e = has-minus set rest l ∙ ap (λ (z : Bool). has set l && not z) (ap (λ (m : ℕ). has m l) e ∙ has-empty l) ∙ and-true (has set l)
 
 stays-in : (rest l rest′ : ℕ) → rest′ ≡ rest without l → (x : ℕ) → has rest′ x ≡ true → has rest x ≡ true
 stays-in rest l rest′ r x k = and-cases (has rest x) (not (has (only l) x)) (sym (has-minus rest (only l) x) ∙ ap (λ (m : ℕ). has m x) (sym r) ∙ k) .0
@@ -96,7 +92,7 @@ module _ (set rest : ℕ) (F : Codes → Codes) (first kept : List ℕ) (w : Wal
   fresh : resumedFrom kept l ≡ resumedFrom first l
   fresh = w .changed .each l b ∙ ap (λ (z : Bool). cond z (F (resumedFrom first l)) (resumedFrom first l)) not-yet
 
-  pub walk-on : length first ≡ 128 → (a : CodeSet) → codesOf a ≡ F (resumedFrom kept l) → (kept′ : List ℕ) → kept′ ≡ stored kept l a
+  pub walk-on : length first ≡ 128 → (a : CodeSet) → codesOf a ≡ F (resumedFrom kept l) → (kept′ : List ℕ) → kept′ ≡ storedFor kept l a
       → (rest′ : ℕ) → rest′ ≡ rest without l → Walking set rest′ F first kept′
   walk-on room a e kept′ k rest′ r = subst (Walking set rest′ F first) (sym k) record {
     within = λ x k. w .within x (stays-in rest l rest′ r x k);
@@ -107,7 +103,7 @@ module _ (set rest : ℕ) (F : Codes → Codes) (first kept : List ℕ) (w : Wal
   }
     where
       Goal : ℕ → Type 0
-      Goal x = resumedFrom (stored kept l a) x ≡ cond (has (set minus rest′) x) (F (resumedFrom first x)) (resumedFrom first x)
+      Goal x = resumedFrom (storedFor kept l a) x ≡ cond (has (set minus rest′) x) (F (resumedFrom first x)) (resumedFrom first x)
 
       each : (x : ℕ) → x < 64 → Dec (x ≡ l) → Goal x
       each x c (yes q) = subst Goal (sym q) (
@@ -137,7 +133,7 @@ lower-ends set rest kept kept′ ending w e = record {
 }
 
 module _ (set rest : ℕ) (first kept : List ℕ) (ending : ℕ) (w : Lowering set rest first kept ending) (l : ℕ) (b : l < 64) (h : has rest l ≡ true) where
-  pub lower-on : length first ≡ 128 → (a : CodeSet) → codesOf a ≡ throughTry (resumedFrom kept l) → (kept′ : List ℕ) → kept′ ≡ stored kept l a
+  pub lower-on : length first ≡ 128 → (a : CodeSet) → codesOf a ≡ throughTry (resumedFrom kept l) → (kept′ : List ℕ) → kept′ ≡ storedFor kept l a
       → (own : ℕ) → own ≡ cond (codesOf a .ends) (only l) 0 → (rest′ : ℕ) → rest′ ≡ rest without l → Lowering set rest′ first kept′ (ending union own)
   lower-on room a e kept′ k own o rest′ r = record {
     walking = walk-on set rest throughTry first kept (w .walking) l b h room a e kept′ k rest′ r;
@@ -206,12 +202,12 @@ pub outline-own : {K K′ : Codes} {l l′ n : ℕ} → K ≡ K′ → l ≡ l�
 outline-own f g = rw (f, g)
 
 -- a pause by itself
-pub changed-own : (kept : List ℕ) → length kept ≡ 128 → (l : ℕ) → l < 64 → (a : CodeSet) {K : Codes} → codesOf a ≡ K → (kept′ : List ℕ) → kept′ ≡ stored kept l a
+pub changed-own : (kept : List ℕ) → length kept ≡ 128 → (l : ℕ) → l < 64 → (a : CodeSet) {K : Codes} → codesOf a ≡ K → (kept′ : List ℕ) → kept′ ≡ storedFor kept l a
     → Changed (only l) (λ D. K) kept kept′
 changed-own kept room l b a {K} e kept′ k = subst (Changed (only l) (λ D. K) kept) (sym k) record { size = stored-size kept l a; each = λ x c. each x c (ℕ-discrete x l) }
   where
     Goal : ℕ → Type 0
-    Goal x = resumedFrom (stored kept l a) x ≡ cond (has (only l) x) K (resumedFrom kept x)
+    Goal x = resumedFrom (storedFor kept l a) x ≡ cond (has (only l) x) K (resumedFrom kept x)
 
     each : (x : ℕ) → x < 64 → Dec (x ≡ l) → Goal x
     each x c (yes q) = subst Goal (sym q) (stored-same kept l a room b ∙ e ∙ sym (ap (λ (z : Bool). cond z K (resumedFrom kept l)) (has-only l)))

@@ -8,7 +8,7 @@ use lib.ListN.{length, getD}
 use Rattle.sets.specs.Set.{only, _union_, Apart}
 use Rattle.esterel.specs.Statement.{Statement, nothing, pause, gotopause, emit, exit, present, sequence, parallel, pauses, Valid}
 use Rattle.esterel.specs.Codes.{Codes, codeOf, justEnded, justAt, justCode, join, minusZero, throughTry, maximum, s, d}
-use Rattle.table.specs.Kinds.{Kind, kinds, kindOf}
+use Rattle.table.specs.Kinds.{kinds, kindOf}
 use Rattle.table.specs.Reading.{operandOf}
 use Rattle.table.specs.inner.Places.{Placed, placed, placeTwo, placeKind, statementAt}
 use Rattle.reach.specs.declared.summary.Summary.{Summary}

@@ -2,7 +2,6 @@
 use mathlib.Core.Bool.{cond}
 use mathlib.Core.List.{List, [], _∷_}
 use Prim.Native.Nat.{ℕ}
-use Rattle.esterel.specs.Statement.{Statement}
 use Rattle.esterel.specs.Codes.{labels, s}
 use Rattle.esterel.specs.Reachability as rounds
 use Rattle.table.specs.Outcomes.{Outcome, refusal, values}

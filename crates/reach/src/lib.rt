@@ -8,6 +8,7 @@ use codes::CodeSet;
 use table::Checked;
 ghost use mathlib.Core.Path.{_≡_};
 ghost use lib.ListN.{length};
+ghost use Rattle.table.specs.Outcomes.{numberOf};
 ghost use Rattle.table.specs.inner.Places.{Known, Loaded};
 ghost use Rattle.reach.specs.Answers.{reachedOutcome, reachOf};
 ghost use Rattle.reach.specs.inner.Rounds.{Settleable, Reaches, Rests};
@@ -93,6 +94,21 @@ pub enum Reached {
     },
 }
 
+// The number of an answer of reach: the refusal, 0 where the table is accepted.
+pub fn refusal(answer: Reached) -> u8
+    ensures { λ r. ⌜ r ≡ numberOf (reachedOutcome answer) ⌝ }
+{
+    match answer {
+        Reached::Refused(why) => why,
+        Reached::Found {
+            ends: _,
+            labels: _,
+            set: _,
+            rounds: _,
+        } => 0,
+    }
+}
+
 // Reach, with room lent for the nodes.
 fn reach_with(table: &[u8], nodes: &mut [u16; table::MOST_NODES]) -> Reached
     requires { ⌜ (length (now nodes) ≡ 1024) × Known (now nodes) ⌝ }
@@ -104,7 +120,7 @@ fn reach_with(table: &[u8], nodes: &mut [u16; table::MOST_NODES]) -> Reached
     };
     let analysed = rounds_of(nodes);
     let Analysed::Rest(found) = analysed else {
-        return Reached::Refused(6);
+        return Reached::Refused(table::NO_KIND);
     };
     let start = found.start;
     Reached::Found {

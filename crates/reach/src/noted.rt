@@ -7,6 +7,7 @@ ghost use Prim.Native.Nat.{_≤_};
 ghost use Rattle.reach.specs.inner.CodeSets.{flagOf};
 ghost use Rattle.reach.specs.inner.Notes.{noteWith, secondOf, endsOf, keptOf, withResumed, withKept};
 
+// A flag as a number.
 fn flag_of(yes: bool) -> u16
     ensures { λ r. ⌜ r ≡ flagOf yes ⌝ }
 {

@@ -7,19 +7,20 @@ use esterel::Label;
 use esterel::Level;
 ghost use mathlib.Core.Path.{_≡_};
 ghost use mathlib.Core.Bool.{cond};
-ghost use Prim.Native.Nat.{_+_, _≤_, _<_};
-ghost use lib.ListN.{length, set};
+ghost use Prim.Native.Nat.{_≤_, _<_};
+ghost use lib.ListN.{length};
 ghost use Rattle.sets.specs.Set.{only};
-ghost use Rattle.esterel.specs.Codes.{codeOf, justEnded, justAt, justCode, join, minusZero, throughTry};
+ghost use Rattle.esterel.specs.Codes.{codeOf, justEnded, justAt, justCode, minusZero, throughTry};
 ghost use Rattle.table.specs.inner.Places.{statementAt};
 ghost use Rattle.reach.specs.inner.CodeSets.{codesOf};
-ghost use Rattle.reach.specs.inner.Summaries.{resumedFrom, stored, Changed, LoweredEach, LabelsFrom, Follows};
+ghost use Rattle.reach.specs.inner.Summaries.{resumedFrom, storedFor, Changed, LoweredEach, LabelsFrom, Follows};
 ghost use Rattle.reach.specs.inner.Summaries.{outline, outlineOf, presentOutline, sequenceOutline, parallelOutline, Summable, Summarised};
 ghost use Rattle.reach.specs.inner.Notes.{NotedChild, LeavesNotes};
 
-// The number of labels, 0 to 63, and of the words kept for them: the labels of each, then the other codes of each.
+// How many labels there are, with 0, which is none.
 const LABELS: usize = 64;
 
+// The words kept for the labels: first the labels of each, then the other codes of each.
 pub const KEPT: usize = 128;
 
 // The place after a statement that is refused: beyond every place, so that what stands there is refused as well.
@@ -48,7 +49,7 @@ fn read(kept: &[u64; KEPT], label: Label) -> CodeSet
 
 fn store(kept: &mut [u64; KEPT], label: Label, a: CodeSet)
     requires { ⌜ label .0 < 64 ⌝ }
-    ensures { λ _. ⌜ now (kept .exit) ≡ stored (now (kept .entry)) (label .0) a ⌝ }
+    ensures { λ _. ⌜ now (kept .exit) ≡ storedFor (now (kept .entry)) (label .0) a ⌝ }
 {
     let at = label.0 as usize;
     kept[at] = a.labels;

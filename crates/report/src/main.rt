@@ -3,7 +3,6 @@
 use libc::STDIN_FILENO;
 use libc::STDOUT_FILENO;
 use reach::Reached;
-use table::Checked;
 use trim::Trimmed;
 
 // A word and a number.
@@ -37,28 +36,26 @@ fn print_report(before: u16, after: u16, set: u64, rounds: u32) {
     io::write_all(STDOUT_FILENO, b"\n");
 }
 
+// Reach gives check's refusals. After that trim has only 12 to give, since there is room for the longest table.
 fn report(table: &[u8]) {
-    let checked = table::check(table);
-    let Checked::Accepted(before) = checked else {
-        print_refused(table::refusal(checked));
+    let reached = reach::reach(table);
+    let Reached::Found {
+        ends: _,
+        labels: _,
+        set,
+        rounds,
+    } = reached
+    else {
+        print_refused(reach::refusal(reached));
         return;
     };
-    // Room for the longest table, so that 13 is not given.
     let mut out = [0u8; 1282];
     let trimmed = trim::trim(table, &mut out);
-    let reached = reach::reach(table);
-    match trimmed {
-        Trimmed::Refused(refusal) => print_refused(refusal),
-        Trimmed::Accepted(after) => match reached {
-            Reached::Refused(refusal) => print_refused(refusal),
-            Reached::Found {
-                ends: _,
-                labels: _,
-                set,
-                rounds,
-            } => print_report(before, after.nodes, set, rounds),
-        },
-    }
+    let Trimmed::Accepted(after) = trimmed else {
+        print_refused(trim::refusal(trimmed));
+        return;
+    };
+    print_report(table::count_in(table), after.nodes, set, rounds);
 }
 
 fn main() {

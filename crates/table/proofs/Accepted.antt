@@ -19,7 +19,7 @@ use Rattle.table.proofs.Nodes.{kind-node, operand-node, length-nodes}
 use Rattle.table.proofs.Cutting.{length-nodesOf}
 use Rattle.table.proofs.Header.{Headed, never-accepted, header-accepted}
 use Rattle.table.proofs.Faults as sound
-use Rattle.table.proofs.Faults.{Sound, fault-sound}
+use Rattle.table.proofs.Faults.{Faultless, fault-none}
 
 -- the nodes xs, inside `tries` try statements and after pauses with the labels `used`, begin with the statement p, at most
 -- `left` deep; then come ys, and the labels are `used′`
@@ -51,11 +51,11 @@ new-label : (used l : ℕ) → has used l ≡ false → Apart used (only l)
 new-label used l h x u = has-only-other l x (λ e. clash (subst (λ (z : ℕ). has used z ≡ true) (sym e) u) h)
 
 module _ (left tries used : ℕ) (child : Child) (ih : Faithful left child) (xs : List ℕ) (p : Statement) (ys : List ℕ) (used′ : ℕ) where
-  abbrev Found : ℕ → Type 0
-  Found x = ReadAs (suc left) tries used (x ∷ xs) p ys used′
+  abbrev ReadBehind : ℕ → Type 0
+  ReadBehind x = ReadAs (suc left) tries used (x ∷ xs) p ys used′
 
   -- ---- A statement with no child, with one, with two: f makes it, x is its node
-  found : (x : ℕ) (q : Statement) (zs : List ℕ) (u : ℕ) → ReadAs (suc left) tries used (x ∷ xs) q zs u → read q zs u ≡ read p ys used′ → Found x
+  found : (x : ℕ) (q : Statement) (zs : List ℕ) (u : ℕ) → ReadAs (suc left) tries used (x ∷ xs) q zs u → read q zs u ≡ read p ys used′ → ReadBehind x
   found x q zs u a h = rw (← the-statement, ← the-rest, ← the-labels) a
     where
       the-statement : q ≡ p
@@ -68,15 +68,15 @@ module _ (left tries used : ℕ) (child : Child) (ih : Faithful left child) (xs 
       the-labels = cc
 
   read-none : (x : ℕ) (q : Statement) (u : ℕ) → nodes q ≡ x ∷ [] → u ≡ used union pauses q → Valid tries q → depth q ≡ 1 → Apart used (pauses q)
-      → read q xs u ≡ read p ys used′ → Found x
+      → read q xs u ≡ read p ys used′ → ReadBehind x
   read-none x q u n l v d a h = found x q xs u (record { here = rw n; labels = l; valid = v; deep = omega arith; apart = a }) h
 
   read-one : (x : ℕ) (f : Statement → Statement) (inside : ℕ) → ((p : Statement) → nodes (f p) ≡ x ∷ nodes p) → ((p : Statement) → pauses (f p) ≡ pauses p)
       → ((p : Statement) → Valid inside p → Valid tries (f p)) → ((p : Statement) → depth (f p) ≡ suc (depth p))
-      → withOne (child inside used xs) f ≡ read p ys used′ → Found x
+      → withOne (child inside used xs) f ≡ read p ys used′ → ReadBehind x
   read-one x f inside n l v d h = go (child inside used xs) refl h
     where
-      go : (r : Reading) → child inside used xs ≡ r → withOne r f ≡ read p ys used′ → Found x
+      go : (r : Reading) → child inside used xs ≡ r → withOne r f ≡ read p ys used′ → ReadBehind x
       go (refused w) e h = absurd (never w p ys used′ h)
       go (read q zs u) e h =
           let a = ih inside used xs q zs u e in
@@ -94,11 +94,11 @@ module _ (left tries used : ℕ) (child : Child) (ih : Faithful left child) (xs 
       → ((p q : Statement) → pauses (f p q) ≡ pauses p union pauses q)
       → ((p q : Statement) → Valid tries p → Valid tries q → Apart (pauses p) (pauses q) → Valid tries (f p q))
       → ((p q : Statement) → depth (f p q) ≡ suc (max (depth p) (depth q)))
-      → withTwo (child tries used xs) (child tries) f ≡ read p ys used′ → Found x
+      → withTwo (child tries used xs) (child tries) f ≡ read p ys used′ → ReadBehind x
   read-two x f n l v d h = go (child tries used xs) refl h
     where
       second : (q : Statement) (zs : List ℕ) (u : ℕ) → ReadAs left tries used xs q zs u → (r : Reading) → child tries u zs ≡ r
-          → withOne r (f q) ≡ read p ys used′ → Found x
+          → withOne r (f q) ≡ read p ys used′ → ReadBehind x
       second q zs u a (refused w) e h = absurd (never w p ys used′ h)
       second q zs u a (read q′ zs′ u′) e h =
           let b = ih tries u zs q′ zs′ u′ e in
@@ -114,7 +114,7 @@ module _ (left tries used : ℕ) (child : Child) (ih : Faithful left child) (xs 
             apart = rw (l q q′) (apart-union used (pauses q) (pauses q′) (a .apart) old);
           }) h
 
-      go : (r : Reading) → child tries used xs ≡ r → withTwo r (child tries) f ≡ read p ys used′ → Found x
+      go : (r : Reading) → child tries used xs ≡ r → withTwo r (child tries) f ≡ read p ys used′ → ReadBehind x
       go (refused w) e h = absurd (never w p ys used′ h)
       go (read q zs u) e h = second q zs u (ih tries used xs q zs u e) (child tries u zs) refl h
 
@@ -123,7 +123,7 @@ module _ (left tries used : ℕ) (child : Child) (ih : Faithful left child) (xs 
       → readKind (kindOf k) o child tries used xs ≡ read p ys used′
   kept k o b h = sym (read-kind k o child tries used xs b) ∙ h
 
-  read-sound : (x : ℕ) → Sound tries used x → readKind (kindOf (x / 64)) (x % 64) child tries used xs ≡ read p ys used′ → Found x
+  read-sound : (x : ℕ) → Faultless tries used x → readKind (kindOf (x / 64)) (x % 64) child tries used xs ≡ read p ys used′ → ReadBehind x
   unfolding readKind kindOf kinds nodes pauses depth Valid
   read-sound x sound.nothing h = read-none x Statement.nothing used refl (sym (union-empty used)) tt refl (no-label used) h
   read-sound x (sound.pause l a b u) h =
@@ -142,14 +142,14 @@ module _ (left tries used : ℕ) (child : Child) (ih : Faithful left child) (xs 
   read-sound x sound.try h = read-one x Statement.try (suc tries) (λ p. refl) (λ p. refl) (λ p v. v) (λ p. refl) h
 
   -- a node that is there: it has no fault, and then goes by its kind
-  read-first : (x w : ℕ) → faultOf (suc left) tries used x ≡ w → readIf w (readKind (kindOf (x / 64)) (x % 64) child tries used xs) ≡ read p ys used′ → Found x
-  read-first x zero e h = read-sound x (fault-sound (suc left) tries used x e .1) h
+  read-first : (x w : ℕ) → faultOf (suc left) tries used x ≡ w → readIf w (readKind (kindOf (x / 64)) (x % 64) child tries used xs) ≡ read p ys used′ → ReadBehind x
+  read-first x zero e h = read-sound x (fault-none (suc left) tries used x e .1) h
   read-first x (suc w) e h = absurd (never (suc w) p ys used′ h)
 
 -- no depth is left: whatever the node is, it is refused
 too-deep : (child : Child) (tries used x w : ℕ) (xs : List ℕ) (p : Statement) (ys : List ℕ) (used′ : ℕ) → faultOf 0 tries used x ≡ w
     → readIf w (readKind (kindOf (x / 64)) (x % 64) child tries used xs) ≡ read p ys used′ → ReadAs 0 tries used (x ∷ xs) p ys used′
-too-deep child tries used x zero xs p ys used′ e h = absurd (let z = fault-sound 0 tries used x e .0 in omega arith)
+too-deep child tries used x zero xs p ys used′ e h = absurd (let z = fault-none 0 tries used x e .0 in omega arith)
 too-deep child tries used x (suc w) xs p ys used′ e h = absurd (never (suc w) p ys used′ h)
 
 pub read-faithful : (left : ℕ) → Faithful left (readFrom left)
@@ -173,7 +173,7 @@ pub record Holds (t : List ℕ) (n : ℕ) (p : Statement) : Type 0 where
 never-holds : (w n : ℕ) (p : Statement) → Table.refused w ≡ holds n p → ⊥
 never-holds w n p h = let z : _≡_ {A = ℕ} 0 1 = cc in omega arith
 
--- "What check accepts is a valid statement"
+-- What check accepts is a valid statement
 pub accepted : (t : List ℕ) (n : ℕ) (p : Statement) → tableOf t ≡ holds n p → Holds t n p
 unfolding tableOf tableAfter wholeOf
 accepted t n p h = go (headerOf t) refl h

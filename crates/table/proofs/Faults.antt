@@ -15,18 +15,18 @@ use Rattle.table.specs.Writing.{node}
 use Rattle.table.proofs.Nodes.{kind-node, operand-node, node-split}
 
 -- a node that stands in `tries` try statements after pauses with the labels `used`
-pub data Sound (tries used : ℕ) : ℕ → Type 0 where
-  nothing : Sound tries used (node 0 0)
-  pause : (l : ℕ) → 1 ≤ l → l ≤ 63 → has used l ≡ false → Sound tries used (node 1 l)
-  gotopause : (l : ℕ) → 1 ≤ l → l ≤ 63 → Sound tries used (node 2 l)
-  emit : (S : ℕ) → S ≤ 31 → Sound tries used (node 3 S)
-  exit : (d : ℕ) → 1 ≤ d → d ≤ 63 → d ≤ tries → Sound tries used (node 4 d)
-  signal : (S : ℕ) → S ≤ 31 → Sound tries used (node 5 S)
-  present : (S : ℕ) → S ≤ 31 → Sound tries used (node 6 S)
-  sequence : Sound tries used (node 7 0)
-  parallel : Sound tries used (node 8 0)
-  loop : Sound tries used (node 9 0)
-  try : Sound tries used (node 10 0)
+pub data Faultless (tries used : ℕ) : ℕ → Type 0 where
+  nothing : Faultless tries used (node 0 0)
+  pause : (l : ℕ) → 1 ≤ l → l ≤ 63 → has used l ≡ false → Faultless tries used (node 1 l)
+  gotopause : (l : ℕ) → 1 ≤ l → l ≤ 63 → Faultless tries used (node 2 l)
+  emit : (S : ℕ) → S ≤ 31 → Faultless tries used (node 3 S)
+  exit : (d : ℕ) → 1 ≤ d → d ≤ 63 → d ≤ tries → Faultless tries used (node 4 d)
+  signal : (S : ℕ) → S ≤ 31 → Faultless tries used (node 5 S)
+  present : (S : ℕ) → S ≤ 31 → Faultless tries used (node 6 S)
+  sequence : Faultless tries used (node 7 0)
+  parallel : Faultless tries used (node 8 0)
+  loop : Faultless tries used (node 9 0)
+  try : Faultless tries used (node 10 0)
 
 -- the number of the first test that fails
 abbrev firstOf : Bool → Bool → Bool → Bool → Bool → ℕ
@@ -50,48 +50,48 @@ only-zero o h = omega arith
 
 -- where the tests are passed, by the kind
 by-kind : (tries used k o : ℕ) → k ≤ 10 → rowOf (kindOf k) .least ≤ o → o ≤ rowOf (kindOf k) .most
-    → (eqb k 4 && ltb tries o) ≡ false → (eqb k 1 && has used o) ≡ false → Sound tries used (node k o)
+    → (eqb k 4 && ltb tries o) ≡ false → (eqb k 1 && has used o) ≡ false → Faultless tries used (node k o)
 unfolding rowOf kindOf kinds
-by-kind tries used zero o b l m e f = subst (λ (o : ℕ). Sound tries used (node 0 o)) (only-zero o m) nothing
+by-kind tries used zero o b l m e f = subst (λ (o : ℕ). Faultless tries used (node 0 o)) (only-zero o m) nothing
 by-kind tries used (suc zero) o b l m e f = pause o l m f
 by-kind tries used (suc (suc zero)) o b l m e f = gotopause o l m
 by-kind tries used (suc (suc (suc zero))) o b l m e f = emit o m
 by-kind tries used (suc (suc (suc (suc zero)))) o b l m e f = exit o l m (ltb-false tries o e)
 by-kind tries used (suc (suc (suc (suc (suc zero))))) o b l m e f = signal o m
 by-kind tries used (suc (suc (suc (suc (suc (suc zero)))))) o b l m e f = present o m
-by-kind tries used (suc (suc (suc (suc (suc (suc (suc zero))))))) o b l m e f = subst (λ (o : ℕ). Sound tries used (node 7 o)) (only-zero o m) sequence
-by-kind tries used (suc (suc (suc (suc (suc (suc (suc (suc zero)))))))) o b l m e f = subst (λ (o : ℕ). Sound tries used (node 8 o)) (only-zero o m) parallel
-by-kind tries used (suc (suc (suc (suc (suc (suc (suc (suc (suc zero))))))))) o b l m e f = subst (λ (o : ℕ). Sound tries used (node 9 o)) (only-zero o m) loop
-by-kind tries used (suc (suc (suc (suc (suc (suc (suc (suc (suc (suc zero)))))))))) o b l m e f = subst (λ (o : ℕ). Sound tries used (node 10 o)) (only-zero o m) try
+by-kind tries used (suc (suc (suc (suc (suc (suc (suc zero))))))) o b l m e f = subst (λ (o : ℕ). Faultless tries used (node 7 o)) (only-zero o m) sequence
+by-kind tries used (suc (suc (suc (suc (suc (suc (suc (suc zero)))))))) o b l m e f = subst (λ (o : ℕ). Faultless tries used (node 8 o)) (only-zero o m) parallel
+by-kind tries used (suc (suc (suc (suc (suc (suc (suc (suc (suc zero))))))))) o b l m e f = subst (λ (o : ℕ). Faultless tries used (node 9 o)) (only-zero o m) loop
+by-kind tries used (suc (suc (suc (suc (suc (suc (suc (suc (suc (suc zero)))))))))) o b l m e f = subst (λ (o : ℕ). Faultless tries used (node 10 o)) (only-zero o m) try
 by-kind tries used (suc (suc (suc (suc (suc (suc (suc (suc (suc (suc (suc k))))))))))) o b l m e f = absurd (omega arith)
 
-pub fault-sound : (left tries used x : ℕ) → faultOf left tries used x ≡ 0 → (1 ≤ left) × Sound tries used x
+pub fault-none : (left tries used x : ℕ) → faultOf left tries used x ≡ 0 → (1 ≤ left) × Faultless tries used x
 unfolding faultOf
-fault-sound left tries used x h =
+fault-none left tries used x h =
     let k = x / 64 in
     let o = x % 64 in
     let (a, b, c, d, e) = none-of (ltb 10 k) (ltb o (rowOf (kindOf k) .least) || ltb (rowOf (kindOf k) .most) o) (eqb left 0) (eqb k 4 && ltb tries o) (eqb k 1 && has used o) h in
     let (l, m) = or-neither (ltb o (rowOf (kindOf k) .least)) (ltb (rowOf (kindOf k) .most) o) b in
     let n : left ≡ 0 → ⊥ = eqb-false left 0 c in
-    (omega arith, subst (Sound tries used) (node-split x) (by-kind tries used k o (ltb-false 10 k a) (ltb-false _ _ l) (ltb-false _ _ m) d e))
+    (omega arith, subst (Faultless tries used) (node-split x) (by-kind tries used k o (ltb-false 10 k a) (ltb-false _ _ l) (ltb-false _ _ m) d e))
 
 fault-node : (left tries used k o : ℕ) → o < 64 → faultOf left tries used (node k o) ≡ faultAt left tries used k o
 unfolding faultOf
 fault-node left tries used k o h = rw (kind-node k o h, operand-node k o h)
 
-pub sound-fault : (left tries used x : ℕ) → Sound tries used x → faultOf (suc left) tries used x ≡ 0
+pub none-fault : (left tries used x : ℕ) → Faultless tries used x → faultOf (suc left) tries used x ≡ 0
 unfolding faultOf rowOf kindOf kinds
-sound-fault left tries used x nothing = rw eqb·suc-zero
-sound-fault left tries used x (pause l a b u) = fault-node (suc left) tries used 1 l (omega arith) ∙ rw (eqb·suc-zero, le-ltb l 1 a, le-ltb 63 l b, u)
-sound-fault left tries used x (gotopause l a b) = fault-node (suc left) tries used 2 l (omega arith) ∙ rw (eqb·suc-zero, le-ltb l 1 a, le-ltb 63 l b)
-sound-fault left tries used x (emit S b) = fault-node (suc left) tries used 3 S (omega arith) ∙ rw (eqb·suc-zero, le-ltb S 0 zero-le, le-ltb 31 S b)
-sound-fault left tries used x (exit d a b c) = fault-node (suc left) tries used 4 d (omega arith) ∙ rw (eqb·suc-zero, le-ltb d 1 a, le-ltb 63 d b, le-ltb tries d c)
-sound-fault left tries used x (signal S b) = fault-node (suc left) tries used 5 S (omega arith) ∙ rw (eqb·suc-zero, le-ltb S 0 zero-le, le-ltb 31 S b)
-sound-fault left tries used x (present S b) = fault-node (suc left) tries used 6 S (omega arith) ∙ rw (eqb·suc-zero, le-ltb S 0 zero-le, le-ltb 31 S b)
-sound-fault left tries used x sequence = rw eqb·suc-zero
-sound-fault left tries used x parallel = rw eqb·suc-zero
-sound-fault left tries used x loop = rw eqb·suc-zero
-sound-fault left tries used x try = rw eqb·suc-zero
+none-fault left tries used x nothing = rw eqb·suc-zero
+none-fault left tries used x (pause l a b u) = fault-node (suc left) tries used 1 l (omega arith) ∙ rw (eqb·suc-zero, le-ltb l 1 a, le-ltb 63 l b, u)
+none-fault left tries used x (gotopause l a b) = fault-node (suc left) tries used 2 l (omega arith) ∙ rw (eqb·suc-zero, le-ltb l 1 a, le-ltb 63 l b)
+none-fault left tries used x (emit S b) = fault-node (suc left) tries used 3 S (omega arith) ∙ rw (eqb·suc-zero, le-ltb S 0 zero-le, le-ltb 31 S b)
+none-fault left tries used x (exit d a b c) = fault-node (suc left) tries used 4 d (omega arith) ∙ rw (eqb·suc-zero, le-ltb d 1 a, le-ltb 63 d b, le-ltb tries d c)
+none-fault left tries used x (signal S b) = fault-node (suc left) tries used 5 S (omega arith) ∙ rw (eqb·suc-zero, le-ltb S 0 zero-le, le-ltb 31 S b)
+none-fault left tries used x (present S b) = fault-node (suc left) tries used 6 S (omega arith) ∙ rw (eqb·suc-zero, le-ltb S 0 zero-le, le-ltb 31 S b)
+none-fault left tries used x sequence = rw eqb·suc-zero
+none-fault left tries used x parallel = rw eqb·suc-zero
+none-fault left tries used x loop = rw eqb·suc-zero
+none-fault left tries used x try = rw eqb·suc-zero
 
 -- ---- The tests one after the other, on a node's kind, operand and row
 pub fault-kind : (left tries used x k : ℕ) → k ≡ x / 64 → 10 < k → 6 ≡ faultOf left tries used x

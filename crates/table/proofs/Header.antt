@@ -67,6 +67,9 @@ pub refused-short : (t : List ℕ) → length t < 2 → Refused 1 ≡ headerOf t
 unfolding headerOf
 refused-short t h = rw (lt-ltb (length t) 2 h)
 
+pub count-none : (t : List ℕ) → length t < 2 → 0 ≡ cond (ltb (length t) 2) 0 (countOf t)
+count-none t h = rw (lt-ltb (length t) 2 h)
+
 -- the width of the padding behind n nodes, by masks, and its mask
 abbrev pub padWidth : ℕ → ℕ
 padWidth n = bitAnd (8 - bitAnd (n * 10) 7) 7
@@ -105,6 +108,9 @@ module _ {t : List ℕ} {word : ℕ} (first : FirstWord t word) where
 
   count : countOf t ≡ counted
   count = cut-count t (first .bytes) (first .long) ∙ ap (λ (w : ℕ). w % 4096) (sym (first .value)) ∙ sym (and-mask word 12)
+
+  pub count-read : counted ≡ cond (ltb (length t) 2) 0 (countOf t)
+  count-read = rw (le-ltb (length t) 2 (first .long)) (sym count)
 
   pub refused-edition : (word / 4096 ≡ 1 → ⊥) → Refused 2 ≡ headerOf t
   unfolding headerOf

@@ -164,6 +164,10 @@ pub above-ten : (k : ℕ) → (k ≡ 0 → ⊥) → (k ≡ 1 → ⊥) → (k ≡
 above-ten k n0 n1 n2 n3 n4 n5 n6 n7 n8 n9 n10 =
     past 10 k (past 9 k (past 8 k (past 7 k (past 6 k (past 5 k (past 4 k (past 3 k (past 2 k (past 1 k (past 0 k zero-le n0) n1) n2) n3) n4) n5) n6) n7) n8) n9) n10
 
+-- what is known where a decision over the eleven kinds has passed them all
+pub none-of-kinds : {A : Type 0} (k : ℕ) → ((((((((((A × (k ≡ 0 → ⊥)) × (k ≡ 1 → ⊥)) × (k ≡ 2 → ⊥)) × (k ≡ 3 → ⊥)) × (k ≡ 4 → ⊥)) × (k ≡ 5 → ⊥)) × (k ≡ 6 → ⊥)) × (k ≡ 7 → ⊥)) × (k ≡ 8 → ⊥)) × (k ≡ 9 → ⊥)) × (k ≡ 10 → ⊥) → 11 ≤ k
+none-of-kinds k ((((((((((((a, n0), n1), n2), n3), n4), n5), n6), n7), n8), n9), n10)) = above-ten k n0 n1 n2 n3 n4 n5 n6 n7 n8 n9 n10
+
 -- ---- The place after a statement
 -- the place after n statements that stand one after the other
 unfoldable pub follow : ℕ → (ℕ → Placed) → ℕ → ℕ

@@ -10,11 +10,26 @@ use Rattle.sets.proofs.Members.{has-only, union-empty, union-assoc, apart-sym, 
 use Rattle.esterel.specs.Statement.{Statement, nothing, pause, gotopause, emit, exit, signal, present, sequence, parallel, loop, try, pauses, depth, Valid}
 use Rattle.table.specs.Kinds.{kinds, kindOf}
 use Rattle.table.specs.Reading.{Reading, read, withOne, withTwo, readKind, readIf, readNode, readFrom, faultOf, kindOfNode, operandOf}
-use Rattle.table.specs.Writing.{node, nodes, Ranged}
+use Rattle.table.specs.Writing.{node, nodes}
 use Rattle.table.proofs.Nodes.{depth-positive}
 use Rattle.table.proofs.Faults as sound
-use Rattle.table.proofs.Faults.{Sound, fault-sound, sound-fault}
+use Rattle.table.proofs.Faults.{Faultless, fault-none, none-fault}
 use Rattle.table.proofs.Accepted.{Child, read-kind}
+
+-- labels 1 to 63, signals 0 to 31 and levels 1 to 63: all that a node can say of its operand. A statement that stands in a
+-- table is Valid besides.
+unfoldable pub Ranged : Statement → Type 0
+Ranged nothing = Unit {0}
+Ranged (pause l) = (1 ≤ l) × (l ≤ 63)
+Ranged (gotopause l) = (1 ≤ l) × (l ≤ 63)
+Ranged (emit S) = S ≤ 31
+Ranged (exit d) = (1 ≤ d) × (d ≤ 63)
+Ranged (signal S p) = (S ≤ 31) × Ranged p
+Ranged (present S p q) = (S ≤ 31) × Ranged p × Ranged q
+Ranged (sequence p q) = Ranged p × Ranged q
+Ranged (parallel p q) = Ranged p × Ranged q
+Ranged (loop p) = Ranged p
+Ranged (try p) = Ranged p
 
 -- p is valid inside `tries` try statements after pauses with the labels `used`, and at most `left` deep
 pub record Fits (left tries used : ℕ) (p : Statement) : Type 0 where
@@ -23,41 +38,41 @@ pub record Fits (left tries used : ℕ) (p : Statement) : Type 0 where
   pub apart : Apart used (pauses p)
 
 -- what reading gives where the nodes of p are followed by ys: p, or a refusal, and that only where p does not fit
-pub data Outcome (left tries used : ℕ) (p : Statement) (ys : List ℕ) (r : Reading) : Type 0 where
-  back : r ≡ read p ys (used union pauses p) → Outcome left tries used p ys r
-  refused : (w : ℕ) → r ≡ Reading.refused w → (Fits left tries used p → ⊥) → Outcome left tries used p ys r
+pub data Reread (left tries used : ℕ) (p : Statement) (ys : List ℕ) (r : Reading) : Type 0 where
+  back : r ≡ read p ys (used union pauses p) → Reread left tries used p ys r
+  refused : (w : ℕ) → r ≡ Reading.refused w → (Fits left tries used p → ⊥) → Reread left tries used p ys r
 
 abbrev pub ReadBack : Statement → Type 0
-ReadBack p = (left tries used : ℕ) (ys : List ℕ) → Outcome left tries used p ys (readFrom left tries used (nodes p ++ ys))
+ReadBack p = (left tries used : ℕ) (ys : List ℕ) → Reread left tries used p ys (readFrom left tries used (nodes p ++ ys))
 
 -- ---- The first node
 
 -- no depth is left for it
-no-depth : (tries used x : ℕ) (xs ys : List ℕ) (p : Statement) → Outcome 0 tries used p ys (readFrom 0 tries used (x ∷ xs))
+no-depth : (tries used x : ℕ) (xs ys : List ℕ) (p : Statement) → Reread 0 tries used p ys (readFrom 0 tries used (x ∷ xs))
 unfolding readFrom readNode
 no-depth tries used x xs ys p = go (faultOf 0 tries used x) refl
   where
     rest : Reading
     rest = readKind (kindOf (kindOfNode x)) (operandOf x) (λ tries′ used′ xs′. Reading.refused 8) tries used xs
 
-    go : (w : ℕ) → faultOf 0 tries used x ≡ w → Outcome 0 tries used p ys (readIf w rest)
-    go zero e = absurd (let h = fault-sound 0 tries used x e .0 in omega arith)
+    go : (w : ℕ) → faultOf 0 tries used x ≡ w → Reread 0 tries used p ys (readIf w rest)
+    go zero e = absurd (let h = fault-none 0 tries used x e .0 in omega arith)
     go (suc w) e = refused (suc w) refl (λ f. let h = depth-positive p in let d = f .deep in omega arith)
 
 -- it has a fault, and then p does not fit, or goes by its kind
-by-kind : (left tries used k o : ℕ) (xs ys : List ℕ) (p : Statement) → o < 64 → (Fits (suc left) tries used p → Sound tries used (node k o))
-    → Outcome (suc left) tries used p ys (readKind (kindOf k) o (readFrom left) tries used xs)
-    → Outcome (suc left) tries used p ys (readFrom (suc left) tries used (node k o ∷ xs))
+by-kind : (left tries used k o : ℕ) (xs ys : List ℕ) (p : Statement) → o < 64 → (Fits (suc left) tries used p → Faultless tries used (node k o))
+    → Reread (suc left) tries used p ys (readKind (kindOf k) o (readFrom left) tries used xs)
+    → Reread (suc left) tries used p ys (readFrom (suc left) tries used (node k o ∷ xs))
 unfolding readFrom readNode
 by-kind left tries used k o xs ys p b s O = rw (read-kind k o (readFrom left) tries used xs b) (go (faultOf (suc left) tries used (node k o)) refl)
   where
-    go : (w : ℕ) → faultOf (suc left) tries used (node k o) ≡ w → Outcome (suc left) tries used p ys (readIf w (readKind (kindOf k) o (readFrom left) tries used xs))
+    go : (w : ℕ) → faultOf (suc left) tries used (node k o) ≡ w → Reread (suc left) tries used p ys (readIf w (readKind (kindOf k) o (readFrom left) tries used xs))
     go zero e = O
-    go (suc w) e = refused (suc w) refl (λ f. let z : 0 ≡ suc w = sym (sound-fault left tries used (node k o) (s f)) ∙ e in omega arith)
+    go (suc w) e = refused (suc w) refl (λ f. let z : 0 ≡ suc w = sym (none-fault left tries used (node k o) (s f)) ∙ e in omega arith)
 
 begins : (p : Statement) (k o : ℕ) (rest : List ℕ) → nodes p ≡ node k o ∷ rest → o < 64
-    → ((left tries used : ℕ) → Fits left tries used p → Sound tries used (node k o))
-    → ((left tries used : ℕ) (ys : List ℕ) → Outcome (suc left) tries used p ys (readKind (kindOf k) o (readFrom left) tries used (rest ++ ys)))
+    → ((left tries used : ℕ) → Fits left tries used p → Faultless tries used (node k o))
+    → ((left tries used : ℕ) (ys : List ℕ) → Reread (suc left) tries used p ys (readKind (kindOf k) o (readFrom left) tries used (rest ++ ys)))
     → ReadBack p
 begins p k o rest e b s f zero tries used ys = rw e (no-depth tries used (node k o) (rest ++ ys) ys p)
 begins p k o rest e b s f (suc left) tries used ys = rw e (by-kind left tries used k o (rest ++ ys) ys p b (s (suc left) tries used) (f left tries used ys))
@@ -65,25 +80,25 @@ begins p k o rest e b s f (suc left) tries used ys = rw e (by-kind left tries us
 -- ---- Its children
 
 one : (left tries inside used : ℕ) (f : Statement → Statement) (p : Statement) (ys : List ℕ) (r : Reading) → pauses (f p) ≡ pauses p
-    → (Fits (suc left) tries used (f p) → Fits left inside used p) → Outcome left inside used p ys r → Outcome (suc left) tries used (f p) ys (withOne r f)
+    → (Fits (suc left) tries used (f p) → Fits left inside used p) → Reread left inside used p ys r → Reread (suc left) tries used (f p) ys (withOne r f)
 one left tries inside used f p ys r l fit (back e) = back (rw (e, l))
 one left tries inside used f p ys r l fit (refused w e no-fit) = refused w (rw e) (λ h. no-fit (fit h))
 
 two : (left tries used : ℕ) (child : Child) (f : Statement → Statement → Statement) (p q : Statement) (xs ys : List ℕ) (r : Reading)
     → pauses (f p q) ≡ pauses p union pauses q → (Fits (suc left) tries used (f p q) → Fits left tries used p)
-    → (Fits (suc left) tries used (f p q) → Fits left tries (used union pauses p) q) → Outcome left tries used p xs r
-    → Outcome left tries (used union pauses p) q ys (child tries (used union pauses p) xs) → Outcome (suc left) tries used (f p q) ys (withTwo r (child tries) f)
+    → (Fits (suc left) tries used (f p q) → Fits left tries (used union pauses p) q) → Reread left tries used p xs r
+    → Reread left tries (used union pauses p) q ys (child tries (used union pauses p) xs) → Reread (suc left) tries used (f p q) ys (withTwo r (child tries) f)
 two left tries used child f p q xs ys r l fit fit′ (refused w e no-fit) second = refused w (rw e) (λ h. no-fit (fit h))
 two left tries used child f p q xs ys r l fit fit′ (back e) second = rw e (go second)
   where
-    go : Outcome left tries (used union pauses p) q ys (child tries (used union pauses p) xs)
-        → Outcome (suc left) tries used (f p q) ys (withOne (child tries (used union pauses p) xs) (f p))
+    go : Reread left tries (used union pauses p) q ys (child tries (used union pauses p) xs)
+        → Reread (suc left) tries used (f p q) ys (withOne (child tries (used union pauses p) xs) (f p))
     go (back e′) = back (rw (e′, l, union-assoc used (pauses p) (pauses q)))
     go (refused w e′ no-fit) = refused w (rw e′) (λ h. no-fit (fit′ h))
 
 -- ---- Kind by kind
 
-no-child : (left tries used : ℕ) (p : Statement) (ys : List ℕ) → pauses p ≡ 0 → Outcome left tries used p ys (read p ys used)
+no-child : (left tries used : ℕ) (p : Statement) (ys : List ℕ) → pauses p ≡ 0 → Reread left tries used p ys (read p ys used)
 no-child left tries used p ys e = back (rw (e, union-empty used))
 
 unused : (used l : ℕ) → Apart used (only l) → has used l ≡ false
@@ -110,7 +125,7 @@ second-fits left tries used f p q l d v h =
 
 one-child : (f : Statement → Statement) (k o : ℕ) (inside : ℕ → ℕ) (p : Statement) → nodes (f p) ≡ node k o ∷ nodes p → pauses (f p) ≡ pauses p
     → depth (f p) ≡ suc (depth p) → ((tries : ℕ) → Valid tries (f p) → Valid (inside tries) p) → o < 64
-    → ((tries used : ℕ) → Sound tries used (node k o))
+    → ((tries used : ℕ) → Faultless tries used (node k o))
     → ((child : Child) (tries used : ℕ) (xs : List ℕ) → readKind (kindOf k) o child tries used xs ≡ withOne (child (inside tries) used xs) f)
     → ReadBack p → ReadBack (f p)
 one-child f k o inside p n l d v b s r below =
@@ -122,7 +137,7 @@ one-child f k o inside p n l d v b s r below =
 two-children : (f : Statement → Statement → Statement) (k o : ℕ) (p q : Statement) → nodes (f p q) ≡ node k o ∷ (nodes p ++ nodes q)
     → pauses (f p q) ≡ pauses p union pauses q → depth (f p q) ≡ suc (max (depth p) (depth q))
     → ((tries : ℕ) → Valid tries (f p q) → Valid tries p × Valid tries q × Apart (pauses p) (pauses q)) → o < 64
-    → ((tries used : ℕ) → Sound tries used (node k o))
+    → ((tries used : ℕ) → Faultless tries used (node k o))
     → ((child : Child) (tries used : ℕ) (xs : List ℕ) → readKind (kindOf k) o child tries used xs ≡ withTwo (child tries used xs) (child tries) f)
     → ReadBack p → ReadBack q → ReadBack (f p q)
 two-children f k o p q n l d v b s r below below′ =

@@ -13,13 +13,13 @@ use Rattle.sets.proofs.Members.{has-empty}
 use Rattle.esterel.specs.Statement.{Statement, nothing, pause, gotopause, emit, exit, signal, present, sequence, parallel, loop, try, pauses, size, depth, Valid}
 use Rattle.table.specs.Bits.{bits, Below}
 use Rattle.table.specs.Reading.{Reading, readFrom, lengthOf, headerOf, deepest, Table, holds, wholeOf, tableAfter, tableOf}
-use Rattle.table.specs.Writing.{node, nodes, Ranged, Allowed, nodeBits, writeNodes, write}
+use Rattle.table.specs.Writing.{node, nodes, Allowed, nodeBits, writeNodes, write}
 use Rattle.table.specs.inner.Making.{Writable}
 use Rattle.table.proofs.Bits.{below-cons, below-append, below-bytesOf}
 use Rattle.table.proofs.Fields.{length-writeNodes, below-fields, headed-written, crowded-written, nodes-written, headed-accepted, nodes-again}
 use Rattle.table.proofs.Nodes.{length-nodes}
 use Rattle.table.proofs.Accepted.{read-faithful, accepted}
-use Rattle.table.proofs.ReadBack.{Outcome, back, refused, read-back}
+use Rattle.table.proofs.ReadBack.{Ranged, Reread, back, refused, read-back}
 
 -- ---- The nodes of a statement fit their fields
 
@@ -101,7 +101,7 @@ answer p ranged few = go (decLe (size p) 1024)
     fields : Below 1024 (nodes p)
     fields = below-nodes p ranged
 
-    whole : (r : Reading) → readFrom deepest 0 0 (nodes p) ≡ r → size p ≤ 1024 → Outcome deepest 0 0 p [] r → Answer p (wholeOf (size p) r)
+    whole : (r : Reading) → readFrom deepest 0 0 (nodes p) ≡ r → size p ≤ 1024 → Reread deepest 0 0 p [] r → Answer p (wholeOf (size p) r)
     whole r made h (back e) =
         let a = read-faithful deepest 0 0 (nodes p) p [] (0 union pauses p) (made ∙ e) in
         same (record { valid = a .valid; few = h; deep = a .deep }) (rw e)
@@ -111,12 +111,12 @@ answer p ranged few = go (decLe (size p) 1024)
     go : Dec (size p ≤ 1024) → Answer p (tableAfter (headerOf (writeNodes (nodes p))) (writeNodes (nodes p)))
     go (yes h) =
         let H = headed-accepted (writeNodes (nodes p)) (length (nodes p)) (headed-written (nodes p) few′ fields (rw length-nodes (size-positive p)) (rw length-nodes h)) in
-        rw (H, nodes-written (nodes p) few′ fields, length-nodes p) (whole (readFrom deepest 0 0 (nodes p)) refl h (subst (λ (l : List ℕ). Outcome deepest 0 0 p [] (readFrom deepest 0 0 l)) (append-nil (nodes p)) (read-back p ranged deepest 0 0 [])))
+        rw (H, nodes-written (nodes p) few′ fields, length-nodes p) (whole (readFrom deepest 0 0 (nodes p)) refl h (subst (λ (l : List ℕ). Reread deepest 0 0 p [] (readFrom deepest 0 0 l)) (append-nil (nodes p)) (read-back p ranged deepest 0 0 [])))
     go (no h) = none (λ a. h (a .few)) 3 (rw (crowded-written (nodes p) few′ fields (rw length-nodes (omega arith))))
 
 -- ---- The two inverse laws
 
--- "Reading what was written for a valid statement of at most 1,024 nodes and depth 60 gives that statement"
+-- Reading what was written for a valid statement of at most 1,024 nodes and depth 60 gives that statement
 pub read-written : (p : Statement) → Allowed p → tableOf (write p) ≡ holds (size p) p
 read-written p a = go (answer p (valid-ranged 0 p (a .valid)) (omega (arith, a .few)))
   where
@@ -124,12 +124,12 @@ read-written p a = go (answer p (valid-ranged 0 p (a .valid)) (omega (arith, a .
     go (same b e) = e
     go (none no-table w e) = absurd (no-table a)
 
--- "writing what was read gives the bytes that were read"
+-- writing what was read gives the bytes that were read
 pub write-read : (t : List ℕ) (n : ℕ) (p : Statement) → Below 256 t → tableOf t ≡ holds n p → write p ≡ t
 unfolding write
 write-read t n p bytes h = let H = accepted t n p h in ap writeNodes (sym (H .nodes-are)) ∙ nodes-again t n (H .header) bytes
 
--- "So a table has exactly one statement, and a statement one table"
+-- So a table has exactly one statement, and a statement one table
 pub one-statement : (t : List ℕ) (n n′ : ℕ) (p p′ : Statement) → tableOf t ≡ holds n p → tableOf t ≡ holds n′ p′ → p ≡ p′
 one-statement t n n′ p p′ h h′ = cc
 
@@ -141,7 +141,7 @@ same-table t t′ n n′ p bytes bytes′ h h′ = sym (write-read t n p bytes h
 
 -- ---- Beyond the limits
 
--- "it never reads as another statement"
+-- it never reads as another statement
 pub never-another : (p : Statement) → Ranged p → size p < 4096 → (n : ℕ) (q : Statement) → tableOf (write p) ≡ holds n q → (q ≡ p) × (n ≡ size p) × Allowed p
 never-another p r few n q h = go (answer p r few)
   where
@@ -149,7 +149,7 @@ never-another p r few n q h = go (answer p r few)
     go (same a e) = (cc, cc, a)
     go (none no-table w e) = absurd (let z : _≡_ {A = ℕ} 0 1 = cc in omega arith)
 
--- "For a statement beyond those limits .. reading what was written is refused"
+-- For a statement beyond those limits reading what was written is refused
 pub beyond-refused : (p : Statement) → Ranged p → size p < 4096 → (Allowed p → ⊥) → (w : ℕ) × (tableOf (write p) ≡ Table.refused w)
 beyond-refused p r few no-table = go (answer p r few)
   where

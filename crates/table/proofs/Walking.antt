@@ -2,20 +2,23 @@
 -- at the end, at a fault, and at each shape of a kind.
 use mathlib.Core.Path.{_≡_, refl, sym, ap, _∙_, subst}
 use mathlib.Core.Logic.{_⊎_, inl, inr}
+use mathlib.Core.Bool.{cond}
 use mathlib.Core.List.{List, [], _∷_, _++_}
 use Prim.Native.Nat.{ℕ, zero, suc, _+_, _-_, _/_, _%_, _≤_, _<_}
 use native.Mathlib.Numerals.{add-one, sub-one}
+use native.Mathlib.Nat.{add-zero}
 use native.Mathlib.Omega.{arith}
+use lib.Dec.{eqb}
 use lib.ListN.{length, getD, drop, length-drop, length-append, drop-of-length-le}
 use lib.Seq.{drop-cons}
 use Rattle.sets.specs.Set.{only, _union_}
 use Rattle.esterel.specs.Statement.{Statement, size}
-use Rattle.table.specs.Kinds.{kinds, kindOf}
+use Rattle.table.specs.Kinds.{kinds, kindOf, rowOf}
 use Rattle.table.specs.Reading.{Reading, refused, read, withOne, withTwo, readKind, readNode, readFrom, faultOf}
 use Rattle.table.specs.inner.Loading.{Walked}
 use Rattle.table.specs.Writing.{nodes}
 use Rattle.table.proofs.Nodes.{length-nodes}
-use Rattle.table.proofs.Faults.{fault-sound}
+use Rattle.table.proofs.Faults.{fault-none}
 use Rattle.table.proofs.Accepted.{Child, read-faithful}
 use Rattle.table.proofs.Places.{past-nodes}
 
@@ -33,7 +36,7 @@ read-fault (suc left) tries used x xs w e = rw e
 pub read-fine : (left tries used x : ℕ) (xs : List ℕ) → faultOf left tries used x ≡ 0
     → readFrom left tries used (x ∷ xs) ≡ readKind (kindOf (x / 64)) (x % 64) (readFrom (left - 1)) tries used xs
 unfolding readFrom readNode
-read-fine zero tries used x xs e = absurd (let l = fault-sound 0 tries used x e .0 in omega arith)
+read-fine zero tries used x xs e = absurd (let l = fault-none 0 tries used x e .0 in omega arith)
 read-fine (suc left) tries used x xs e = rw (e, sub-one (suc left))
 
 -- ---- The shapes of kinds
@@ -45,24 +48,40 @@ module _ (o : ℕ) (child : Child) (tries used : ℕ) (xs : List ℕ) where
   leaf-kind k (inr (inr (inl e))) = (Statement.emit o, rw e)
   leaf-kind k (inr (inr (inr e))) = (Statement.exit o, rw e)
 
-  one-kind : (k : ℕ) → (k ≡ 5) ⊎ (k ≡ 9) → (f : Statement → Statement) × (readKind (kindOf k) o child tries used xs ≡ withOne (child tries used xs) f)
-  unfolding readKind kindOf kinds
-  one-kind k (inl e) = (Statement.signal o, rw e)
-  one-kind k (inr e) = (Statement.loop, rw e)
+-- a kind with children, and the number of try statements around them
+pub record Parent (tries k inside : ℕ) : Type 0 where
+  pub from : 5 ≤ k
+  pub to : k ≤ 10
+  pub around : inside ≡ tries + cond (eqb k 10) 1 0
 
-  two-kind : (k : ℕ) → 6 ≤ k → k ≤ 8
-      → (f : Statement → Statement → Statement) × (readKind (kindOf k) o child tries used xs ≡ withTwo (child tries used xs) (child tries) f)
-  unfolding readKind kindOf kinds
-  two-kind zero a b = absurd (omega arith)
-  two-kind (suc zero) a b = absurd (omega arith)
-  two-kind (suc (suc zero)) a b = absurd (omega arith)
-  two-kind (suc (suc (suc zero))) a b = absurd (omega arith)
-  two-kind (suc (suc (suc (suc zero)))) a b = absurd (omega arith)
-  two-kind (suc (suc (suc (suc (suc zero))))) a b = absurd (omega arith)
-  two-kind (suc (suc (suc (suc (suc (suc zero)))))) a b = (Statement.present o, refl)
-  two-kind (suc (suc (suc (suc (suc (suc (suc zero))))))) a b = (Statement.sequence, refl)
-  two-kind (suc (suc (suc (suc (suc (suc (suc (suc zero)))))))) a b = (Statement.parallel, refl)
-  two-kind (suc (suc (suc (suc (suc (suc (suc (suc (suc k))))))))) a b = absurd (omega arith)
+-- how it reads: the row of its kind says whether it has one child or two
+abbrev children : ℕ → ℕ
+children k = rowOf (kindOf k) .children
+
+data Shape (o : ℕ) (child : Child) (tries used : ℕ) (xs : List ℕ) (k inside : ℕ) : Type 0 where
+  one : (f : Statement → Statement) → children k ≡ 1 → readKind (kindOf k) o child tries used xs ≡ withOne (child inside used xs) f
+      → Shape o child tries used xs k inside
+  two : (f : Statement → Statement → Statement) → children k ≡ 2
+      → readKind (kindOf k) o child tries used xs ≡ withTwo (child inside used xs) (child inside) f → Shape o child tries used xs k inside
+
+module _ (o : ℕ) (child : Child) (tries used : ℕ) (xs : List ℕ) where
+  shape-of : (k : ℕ) → 5 ≤ k → k ≤ 10 → Shape o child tries used xs k (tries + cond (eqb k 10) 1 0)
+  unfolding readKind rowOf kindOf kinds
+  shape-of zero a b = absurd (omega arith)
+  shape-of (suc zero) a b = absurd (omega arith)
+  shape-of (suc (suc zero)) a b = absurd (omega arith)
+  shape-of (suc (suc (suc zero))) a b = absurd (omega arith)
+  shape-of (suc (suc (suc (suc zero)))) a b = absurd (omega arith)
+  shape-of (suc (suc (suc (suc (suc zero))))) a b = one (Statement.signal o) refl (rw add-zero)
+  shape-of (suc (suc (suc (suc (suc (suc zero)))))) a b = two (Statement.present o) refl (rw add-zero)
+  shape-of (suc (suc (suc (suc (suc (suc (suc zero))))))) a b = two Statement.sequence refl (rw add-zero)
+  shape-of (suc (suc (suc (suc (suc (suc (suc (suc zero)))))))) a b = two Statement.parallel refl (rw add-zero)
+  shape-of (suc (suc (suc (suc (suc (suc (suc (suc (suc zero))))))))) a b = one Statement.loop refl (rw add-zero)
+  shape-of (suc (suc (suc (suc (suc (suc (suc (suc (suc (suc zero)))))))))) a b = one Statement.try refl (rw add-one)
+  shape-of (suc (suc (suc (suc (suc (suc (suc (suc (suc (suc (suc k))))))))))) a b = absurd (omega arith)
+
+  shape : {k inside : ℕ} → Parent tries k inside → Shape o child tries used xs k inside
+  shape {k} p = subst (Shape o child tries used xs k) (sym (p .around)) (shape-of k (p .from) (p .to))
 
 -- ---- Walks
 -- a statement around a reading changes neither the place nor the labels
@@ -143,46 +162,50 @@ module _ {n : ℕ} {xs : List ℕ} {left tries at used x k : ℕ} (f : At n xs l
   unfolding readKind kindOf kinds
   walk-pause e o used′ w q u h = went (Statement.pause o) used′ w (rw (e, u, q)) h
 
-  module _ (r at′ used′ : ℕ) where
-    pub walk-one : (k ≡ 5) ⊎ (k ≡ 9) → 0 ≡ fault → WalkedAt n xs (left - 1) tries (at + 1) used r at′ used′ → Goes r at′ used′
-    walk-one s z h =
-        let (g, e) = one-kind (x % 64) below tries used rest k s in
-        gone (withOne (below tries used rest) g) r at′ used′ (by-kind z ∙ e) (walked-one n (below tries used rest) g r at′ used′ h)
+  -- a node with children: the only one, or the first one, which stops the walk or is followed by the second
+  module _ {inside : ℕ} (p : Parent tries k inside) (z : 0 ≡ fault) where
+    abbrev first : Reading
+    first = below inside used rest
 
-    pub walk-try : k ≡ 10 → 0 ≡ fault → WalkedAt n xs (left - 1) (tries + 1) (at + 1) used r at′ used′ → Goes r at′ used′
-    unfolding readKind kindOf kinds
-    walk-try e z h =
-        gone (withOne (below (tries + 1) used rest) Statement.try) r at′ used′ (by-kind z ∙ rw (e, ← add-one tries))
-        (walked-one n (below (tries + 1) used rest) Statement.try r at′ used′ h)
+    abbrev shaped : Shape (x % 64) below tries used rest k inside
+    shaped = shape (x % 64) below tries used rest p
 
-    -- the first of two children, and the second where the first went on
-    module _ (a : 6 ≤ k) (b : k ≤ 8) (z : 0 ≡ fault) where
-      abbrev first : Reading
-      first = below tries used rest
+    pub walk-first : (r at′ used′ at″ used″ : ℕ) → (r ≡ 0 → ⊥) → WalkedAt n xs (left - 1) inside (at + 1) used r at″ used″ → Goes r at′ used′
+    walk-first r at′ used′ at″ used″ d h = go shaped
+      where
+        stops : (q : Reading) → Walked n q r at″ used″ → Walked n q r at′ used′
+        stops (refused w) g = g
+        stops (read p ys u) g = absurd (d (g .0))
 
-      abbrev make : Statement → Statement → Statement
-      make = two-kind (x % 64) below tries used rest k a b .0
+        both : (q : Reading) (g : Statement → Statement → Statement) → Walked n q r at″ used″ → Walked n (withTwo q (below inside) g) r at′ used′
+        both (refused w) g j = j
+        both (read p ys u) g j = absurd (d (j .0))
 
-      both : readFrom left tries used (drop at xs) ≡ withTwo first (below tries) make
-      both = by-kind z ∙ two-kind (x % 64) below tries used rest k a b .1
+        go : Shape (x % 64) below tries used rest k inside → Goes r at′ used′
+        go (one g c e) = gone (withOne first g) r at′ used′ (by-kind z ∙ e) (walked-one n first g r at′ used′ (stops first h))
+        go (two g c e) = gone (withTwo first (below inside) g) r at′ used′ (by-kind z ∙ e) (both first g h)
 
-      pub walk-first : (at″ used″ : ℕ) → (r ≡ 0 → ⊥) → WalkedAt n xs (left - 1) tries (at + 1) used r at″ used″ → Goes r at′ used′
-      walk-first at″ used″ d h = gone (withTwo first (below tries) make) r at′ used′ both (go first h)
-        where
-          go : (q : Reading) → Walked n q r at″ used″ → Walked n (withTwo q (below tries) make) r at′ used′
-          go (refused w) g = g
-          go (read p ys u) g = absurd (d (g .0))
+    pub walk-only : (r at′ used′ : ℕ) → children k ≡ 1 → WalkedAt n xs (left - 1) inside (at + 1) used r at′ used′ → Goes r at′ used′
+    walk-only r at′ used′ c h = go shaped
+      where
+        go : Shape (x % 64) below tries used rest k inside → Goes r at′ used′
+        go (one g c e) = gone (withOne first g) r at′ used′ (by-kind z ∙ e) (walked-one n first g r at′ used′ h)
+        go (two g d e) = absurd (omega arith)
 
-      pub walk-second : (r′ next labels : ℕ) → r′ ≡ 0 → WalkedAt n xs (left - 1) tries (at + 1) used r′ next labels
-          → WalkedAt n xs (left - 1) tries next labels r at′ used′ → Goes r at′ used′
-      walk-second r′ next labels none h g = gone (withTwo first (below tries) make) r at′ used′ both (go first refl h)
-        where
-          go : (q : Reading) → first ≡ q → Walked n q r′ next labels → Walked n (withTwo q (below tries) make) r at′ used′
-          go (refused w) i j = absurd (let (e, l) = j in omega arith)
-          go (read p ys u) i j =
-              let count : length xs ≡ n = f .count in
-              let inside : at < length xs = f .inside in
-              let after : drop next xs ≡ ys = ap (λ (k : ℕ). drop k xs) (j .1) ∙ resumes n xs (left - 1) tries (at + 1) used p ys u (f .count) (omega arith) i in
-              walked-one n (below tries u ys) (make p) r at′ used′
-              (subst (λ (l : List ℕ). Walked n (below tries u l) r at′ used′) after
-              (subst (λ (v : ℕ). Walked n (below tries v (drop next xs)) r at′ used′) (j .2) g))
+    pub walk-second : (r at′ used′ r′ next labels : ℕ) → (children k ≡ 1 → ⊥) → r′ ≡ 0 → WalkedAt n xs (left - 1) inside (at + 1) used r′ next labels
+        → WalkedAt n xs (left - 1) inside next labels r at′ used′ → Goes r at′ used′
+    walk-second r at′ used′ r′ next labels c none h j = go shaped
+      where
+        both : (q : Reading) (g : Statement → Statement → Statement) → first ≡ q → Walked n q r′ next labels → Walked n (withTwo q (below inside) g) r at′ used′
+        both (refused w) g i m = absurd (let (e, l) = m in omega arith)
+        both (read p ys u) g i m =
+            let count : length xs ≡ n = f .count in
+            let within : at < length xs = f .inside in
+            let after : drop next xs ≡ ys = ap (λ (k : ℕ). drop k xs) (m .1) ∙ resumes n xs (left - 1) inside (at + 1) used p ys u (f .count) (omega arith) i in
+            walked-one n (below inside u ys) (g p) r at′ used′
+            (subst (λ (l : List ℕ). Walked n (below inside u l) r at′ used′) after
+            (subst (λ (v : ℕ). Walked n (below inside v (drop next xs)) r at′ used′) (m .2) j))
+
+        go : Shape (x % 64) below tries used rest k inside → Goes r at′ used′
+        go (one g d e) = absurd (c d)
+        go (two g d e) = gone (withTwo first (below inside) g) r at′ used′ (by-kind z ∙ e) (both first g refl h)

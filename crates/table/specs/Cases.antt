@@ -1,6 +1,7 @@
 -- The lettered cases of document 01, A to L, in its order and words. That all of it holds is one theorem (proofs/Cases).
 use Prim.Native.Nat.{ℕ}
 use mathlib.Core.Path.{_≡_}
+use mathlib.Core.Logic.{_≢_}
 use mathlib.Core.Bool.{Bool, true, false}
 use mathlib.Core.List.{List, [], _∷_}
 use Rattle.sets.specs.Set.{only, _union_}
@@ -19,8 +20,8 @@ setOf [] = 0
 setOf (x ∷ xs) = only x union setOf xs
 
 -- a set of codes: whether it has 0, its labels l with 1 at l, its codes of 2 and up
-unfoldable pub codesOf : Bool → List ℕ → List ℕ → Codes
-codesOf zero labels codes = record { ends = zero; pausing = setOf labels; higher = setOf codes }
+unfoldable pub codesWith : Bool → List ℕ → List ℕ → Codes
+codesWith zero labels codes = record { ends = zero; pausing = setOf labels; higher = setOf codes }
 
 -- what document 01 says of a statement p
 pub data Claim : Type 0 where
@@ -39,6 +40,8 @@ pub data Claim : Type 0 where
   -- its reactions in a state, all of them by the rules, under an assumed set or under every E
   reactsUnder : List ℕ → State → List Reaction → Claim
   reacts : State → List Reaction → Claim
+  -- a reaction in a state has two derivations that differ, under every E
+  derivedTwice : State → Reaction → Claim
   -- it has no reaction, in any state, under any E
   never : Claim
 
@@ -52,6 +55,7 @@ Meets p (reaches R n) = reach p ≡ record { set = setOf R; rounds = n }
 Meets p (trims q n) = (trimmed p ≡ q) × (size q ≡ n)
 Meets p (reactsUnder E x ts) = IsListing p x (setOf E) ts
 Meets p (reacts x ts) = (E : ℕ) → IsListing p x E ts
+Meets p (derivedTwice x r) = (E : ℕ) → (a : Reacts p x E r) × (b : Reacts p x E r) × (a ≢ b)
 Meets p never = (x : State) (E : ℕ) (r : Reaction) → Reacts p x E r → ⊥
 
 pub record Case : Type 0 where
@@ -75,7 +79,7 @@ AllHold (c ∷ more) = MeetsAll (c .statement) (c .claims) × AllHold more
 
 -- "`nothing`: bytes (hex) 10 01 00 00; s = {0}; R empty; rounds 1"
 unfoldable pub caseA : Case
-caseA = case nothing (bytes (0x10 ∷ 0x01 ∷ 0x00 ∷ 0x00 ∷ []) ∷ starts (codesOf true [] []) ∷ reaches [] 1 ∷ [])
+caseA = case nothing (bytes (0x10 ∷ 0x01 ∷ 0x00 ∷ 0x00 ∷ []) ∷ starts (codesWith true [] []) ∷ reaches [] 1 ∷ [])
 
 -- "`1:pause`: 10 01 10 40; R = {1}; rounds 2"
 unfoldable pub caseB : Case
@@ -83,17 +87,19 @@ caseB = case (pause 1) (bytes (0x10 ∷ 0x01 ∷ 0x10 ∷ 0x40 ∷ []) ∷ reach
 
 -- "`present S then exit 7 end || 3:pause || gotopause 4` (a statement, not a table): s = {1 at 3, 1 at 4, 8}"; S is signal 0
 unfoldable pub caseC : Case
-caseC = case (parallel (present 0 (exit 7) nothing) (parallel (pause 3) (gotopause 4))) (starts (codesOf false (3 ∷ 4 ∷ []) (8 ∷ [])) ∷ [])
+caseC = case (parallel (present 0 (exit 7) nothing) (parallel (pause 3) (gotopause 4))) (starts (codesWith false (3 ∷ 4 ∷ []) (8 ∷ [])) ∷ [])
 
 -- "`1:pause ; 2:pause || 3:pause ; 4:pause ; exit 6` (statement): d({1}) = {1 at 2}; d({3,4}) = {1 at 4, 7}"
 unfoldable pub caseD : Case
 caseD =
     case (parallel (sequence (pause 1) (pause 2)) (sequence (pause 3) (sequence (pause 4) (exit 6))))
-    (resumes (1 ∷ []) (codesOf false (2 ∷ []) []) ∷ resumes (3 ∷ 4 ∷ []) (codesOf false (4 ∷ []) (7 ∷ [])) ∷ [])
+    (resumes (1 ∷ []) (codesWith false (2 ∷ []) []) ∷ resumes (3 ∷ 4 ∷ []) (codesWith false (4 ∷ []) (7 ∷ [])) ∷ [])
 
 -- "Start of `signal S in present S then emit S end end`: one reaction (none, 0, none), though derived twice"
 unfoldable pub caseE : Case
-caseE = case (signal 0 (present 0 (emit 0) nothing)) (reacts start (reactionOf [] 0 [] ∷ []) ∷ [])
+caseE =
+    case (signal 0 (present 0 (emit 0) nothing))
+    (reacts start (reactionOf [] 0 [] ∷ []) ∷ derivedTwice start (reactionOf [] 0 []) ∷ [])
 
 -- "`try 1:pause ; exit 1 || 2:pause ; 3:pause end`: R = {1, 2, 3}, rounds 3"; the report program's line is `nodes 8 8`
 unfoldable pub caseF : Case

@@ -23,21 +23,6 @@ nodes (parallel p q) = node 8 0 ∷ nodes p ++ nodes q
 nodes (loop p) = node 9 0 ∷ nodes p
 nodes (try p) = node 10 0 ∷ nodes p
 
--- labels 1 to 63, signals 0 to 31 and levels 1 to 63: all that a node can say of its operand. A statement that stands in a
--- table is Valid besides.
-unfoldable pub Ranged : Statement → Type 0
-Ranged nothing = Unit {0}
-Ranged (pause l) = (1 ≤ l) × (l ≤ 63)
-Ranged (gotopause l) = (1 ≤ l) × (l ≤ 63)
-Ranged (emit S) = S ≤ 31
-Ranged (exit d) = (1 ≤ d) × (d ≤ 63)
-Ranged (signal S p) = (S ≤ 31) × Ranged p
-Ranged (present S p q) = (S ≤ 31) × Ranged p × Ranged q
-Ranged (sequence p q) = Ranged p × Ranged q
-Ranged (parallel p q) = Ranged p × Ranged q
-Ranged (loop p) = Ranged p
-Ranged (try p) = Ranged p
-
 -- a statement that may stand in a table: "N is 1 to 1,024", "no node is deeper than 60"
 pub record Allowed (p : Statement) : Type 0 where
   pub valid : Valid 0 p

@@ -7,15 +7,25 @@ ghost use Rattle.table.specs.inner.Loading.{unpacked, Rows};
 
 // The kinds by their numbers, as specs/Kinds has them.
 pub const NOTHING: u16 = 0;
+
 pub const PAUSE: u16 = 1;
+
 pub const GOTOPAUSE: u16 = 2;
+
 pub const EMIT: u16 = 3;
+
 pub const EXIT: u16 = 4;
+
 pub const SIGNAL: u16 = 5;
+
 pub const PRESENT: u16 = 6;
+
 pub const SEQUENCE: u16 = 7;
+
 pub const PARALLEL: u16 = 8;
+
 pub const LOOP: u16 = 9;
+
 pub const TRY: u16 = 10;
 
 // "Each kind fixes its operand's range and its children": by the number of the kind its largest operand, its smallest

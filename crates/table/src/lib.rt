@@ -17,6 +17,7 @@ pub use kinds::TRY;
 pub use kinds::kind_of;
 pub use kinds::operand_of;
 pub use reading::check;
+pub use reading::count_in;
 pub use reading::load;
 pub use reading::refusal;
 pub use writing::length_of;
@@ -29,6 +30,9 @@ pub const MOST_NODES: usize = 1024;
 
 // "The root has depth 1; no node is deeper than 60."
 pub const DEEPEST: usize = 60;
+
+// "6 kind above 10": what check gives, and what a pass over the nodes of a table would give that check let through.
+pub const NO_KIND: u8 = 6;
 
 // What a kind fixes: its children, and its smallest and largest operand.
 pub struct Row {

@@ -2,16 +2,14 @@
 use crate::Checked;
 use crate::DEEPEST;
 use crate::MOST_NODES;
+use crate::NO_KIND;
 use crate::Row;
 use crate::kinds::EMIT;
 use crate::kinds::EXIT;
 use crate::kinds::GOTOPAUSE;
 use crate::kinds::KINDS;
-use crate::kinds::LOOP;
 use crate::kinds::NOTHING;
-use crate::kinds::PARALLEL;
 use crate::kinds::PAUSE;
-use crate::kinds::PRESENT;
 use crate::kinds::SIGNAL;
 use crate::kinds::TRY;
 use crate::kinds::kind_of;
@@ -26,9 +24,12 @@ ghost use Prim.Native.Nat.{_+_, _/_, _%_, _^_, _≤_, _<_};
 ghost use lib.Dec.{eqb, ltb};
 ghost use lib.ListN.{length, take, drop};
 ghost use Rattle.sets.specs.Set.{has};
-ghost use Rattle.table.specs.Reading.{lengthOf, headerOf, nodesOf, readFrom, deepest, wholeOf, checkedOutcome, checkIn, checkOf};
+ghost use Rattle.table.specs.Reading.{lengthOf, countOf, headerOf, nodesOf, readFrom, deepest, wholeOf, checkedOutcome, checkIn, checkOf};
 ghost use Rattle.table.specs.Outcomes.{numberOf};
 ghost use Rattle.table.specs.inner.Loading.{Rows, wordAt, Cut, loadedOf, fieldFault, Walked};
+
+// The bits of the first word that are the node count, behind the four of the edition.
+const COUNT: u16 = 0xfff;
 
 // Two bytes as a number.
 fn word_at(table: &[u8], at: usize) -> u16
@@ -36,6 +37,16 @@ fn word_at(table: &[u8], at: usize) -> u16
     ensures { λ r. ⌜ r ≡ wordAt (now (table .entry)) at ⌝ }
 {
     (table[at] as u16) << 8 | table[at + 1] as u16
+}
+
+// "12 bits node count N", whether or not the table is accepted; 0 where there are no two bytes.
+pub fn count_in(table: &[u8]) -> u16
+    ensures { λ r. ⌜ r ≡ cond (ltb (length (now (table .entry))) 2) 0 (countOf (now (table .entry))) ⌝ }
+{
+    if table.len() < 2 {
+        return 0;
+    }
+    word_at(table, 0) & COUNT
 }
 
 // Tests 1 to 5. Accepted gives the node count.
@@ -49,7 +60,7 @@ fn header(table: &[u8]) -> Checked
     if word >> 12 != 1 {
         return Checked::Refused(2);
     }
-    let n = word & 0xfff;
+    let n = word & COUNT;
     if n == 0 {
         return Checked::Refused(3);
     }
@@ -162,6 +173,13 @@ fn field_fault(operand: u8, row: Row, left: usize) -> u8
     first_of(range, depth_fault(left))
 }
 
+// How many try statements a node adds around its children.
+fn tried(kind: u16) -> u8
+    ensures { λ r. ⌜ r ≡ cond (eqb kind 10) 1 0 ⌝ }
+{
+    if kind == TRY { 1 } else { 0 }
+}
+
 // Walks over the statement at node `at` of the first n, with all below it, inside `tries` try statements; `left` is the depth
 // that is left, that node's included. Gives the number of the refusal, or 0 with the place after the statement in `at` and
 // its labels added to `used`.
@@ -174,7 +192,7 @@ fn walk(
     used: &mut u64,
     rows: &[u32; 16],
 ) -> u8
-    requires { ⌜ (n ≤ 1024) × (length (now nodes) ≡ 1024) × (tries + left ≤ 255) × Rows (now rows) ⌝ }
+    requires { ⌜ (n ≤ 1024) × (length (now nodes) ≡ 1024) × (tries + left < 255) × Rows (now rows) ⌝ }
     ensures { λ r. ⌜ Walked n (readFrom left tries (now (used .entry)) (drop (now (at .entry)) (take n (now (nodes .entry))))) r (now (at .exit)) (now (used .exit)) ⌝ }
 {
     let here = *at;
@@ -184,44 +202,34 @@ fn walk(
     let node = nodes[here];
     let kind = kind_of(node);
     let operand = operand_of(node);
-    let fault = field_fault(operand, row_in(rows, kind), left);
+    let row = row_in(rows, kind);
+    let fault = field_fault(operand, row, left);
     *at = here + 1;
-    match kind {
-        NOTHING => fault,
+    let inside = match kind {
+        NOTHING => return fault,
         PAUSE => {
             let label = Label(operand);
             let why = first_of(fault, label_fault(label, *used));
             *used = sets::with(*used, label.0);
-            why
+            return why;
         }
-        GOTOPAUSE => fault,
-        EMIT => fault,
-        EXIT => first_of(fault, level_fault(Level(operand), tries)),
-        SIGNAL | LOOP => {
-            if fault != 0 {
-                return fault;
-            }
-            walk(nodes, n, left - 1, tries, at, used, rows)
-        }
-        PRESENT..=PARALLEL => {
-            if fault != 0 {
-                return fault;
-            }
-            let first = walk(nodes, n, left - 1, tries, at, used, rows);
-            if first != 0 {
-                return first;
-            }
-            walk(nodes, n, left - 1, tries, at, used, rows)
-        }
-        TRY => {
-            if fault != 0 {
-                return fault;
-            }
-            walk(nodes, n, left - 1, tries + 1, at, used, rows)
-        }
-        11..=15 => 6,
-        _ => 6,
+        GOTOPAUSE..=EMIT => return fault,
+        EXIT => return first_of(fault, level_fault(Level(operand), tries)),
+        SIGNAL..=TRY => tries + tried(kind),
+        11..=15 => return NO_KIND,
+        _ => return NO_KIND,
+    };
+    if fault != 0 {
+        return fault;
     }
+    if row.children == 1 {
+        return walk(nodes, n, left - 1, inside, at, used, rows);
+    }
+    let first = walk(nodes, n, left - 1, inside, at, used, rows);
+    if first != 0 {
+        return first;
+    }
+    walk(nodes, n, left - 1, inside, at, used, rows)
 }
 
 // Tests 6 to 11, on the first n nodes.

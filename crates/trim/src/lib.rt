@@ -17,12 +17,10 @@ use work::Part;
 ghost use mathlib.Core.Path.{_≡_};
 ghost use lib.ListN.{length};
 ghost use Rattle.esterel.specs.Trimming.{trimmed};
+ghost use Rattle.table.specs.Outcomes.{numberOf};
 ghost use Rattle.table.specs.inner.Places.{statementOf, Known, Loaded};
 ghost use Rattle.trim.specs.Answers.{trimmedOutcome, trimOf, bufferOf};
 ghost use Rattle.trim.specs.inner.Root.{Lent, LaidOut, EndFits, Finished};
-
-// "6 kind above 10": a pass over the nodes met one of no kind, which check lets through nowhere.
-const NO_KIND: u8 = 6;
 
 // "12 the trimmed table has over 1,024 nodes or depth over 60; 13 the output buffer is shorter than the trimmed table."
 const TOO_LARGE: u8 = 12;
@@ -39,6 +37,16 @@ pub struct Written {
 pub enum Trimmed {
     Refused(u8),
     Accepted(Written),
+}
+
+// The number of an answer of trim: the refusal, 0 where the table is accepted.
+pub fn refusal(answer: Trimmed) -> u8
+    ensures { λ r. ⌜ r ≡ numberOf (trimmedOutcome answer) ⌝ }
+{
+    match answer {
+        Trimmed::Refused(why) => why,
+        Trimmed::Accepted(_) => 0,
+    }
 }
 
 // Trims the statement that the nodes hold, to the end of the work area.
@@ -126,7 +134,7 @@ fn trim_with(
     };
     let laid = trim_nodes(nodes, notes, endings, places, work);
     let Laid::At(part) = laid else {
-        return Trimmed::Refused(NO_KIND);
+        return Trimmed::Refused(table::NO_KIND);
     };
     finish(work, part, out)
 }

@@ -1,5 +1,6 @@
 //! Times each operation of the proved library against the plain implementation, on the same
-//! generated tables in one process. Both answers are compared first.
+//! generated tables in one process. What both answer is compared first: for reach its sets and
+//! rounds, for the others a refusal or the count.
 //!
 //! Each figure is the best of several batches that take turns. Result buffers are not cleared
 //! before a call. A call includes everything that the operation does, the making ready of its
@@ -60,7 +61,7 @@ fn time(
     }
     let [ours, theirs] = best.map(|ns| ns / row.tables.len() as f64);
     let nodes = row.nodes();
-    print!("{operation:<6} {:<34} {nodes:>6.0}", row.name);
+    print!("{operation:<6} {:<40} {nodes:>6.0}", row.name);
     print!(" {ours:>10.0} {:>8.2} {theirs:>10.0} {:>8.2}", ours / nodes, theirs / nodes);
     println!(" {:>7.2}", ours / theirs);
 }
@@ -117,10 +118,31 @@ fn trim(row: &Row) {
     );
 }
 
-/// So many signals around a program, each of which the program names.
-fn inside_signals(count: usize, p: Statement) -> Statement {
+/// So many signals inside one another, S0 and up, the innermost being S0.
+fn signals_around(count: usize, p: Statement) -> Statement {
+    (0..count).fold(p, |p, i| Signal(i as u8, p.into()))
+}
+
+/// So many signals around a program, each of which is emitted before it where S0 is absent. Four
+/// nodes for each, and the signal's own.
+fn named_signals(count: usize, p: Statement) -> Statement {
     let named = (0..count).fold(p, |p, i| sequence(present(Nothing, Emit(i as u8)), p));
-    (0..count).fold(named, |p, i| Signal(i as u8, p.into()))
+    signals_around(count, named)
+}
+
+/// Tests of S0 and up side by side, that emit one of two signals which no statement declares: one
+/// reaction under each E, but each test doubles the cases that the E's make.
+fn side_by_side(tests: usize) -> Statement {
+    let test = |i: usize| Present(i as u8, Emit(29).into(), Emit(30).into());
+    even((0..tests).map(test).collect(), parallel)
+}
+
+/// For S0 and up, so many, a part that emits it and one that tests it, all in parallel.
+fn emitted_and_tested(count: usize) -> Statement {
+    let parts = (0..count as u8)
+        .flat_map(|i| [Emit(i), Present(i, Emit(30).into(), Nothing.into())])
+        .collect();
+    even(parts, parallel)
 }
 
 /// A program of about n nodes that emits and then stops at pauses; one reaction at the start.
@@ -162,31 +184,59 @@ fn one(name: String, p: Statement) -> Row {
     Row { name, tables: vec![write(&p)] }
 }
 
-fn listings(rows: Vec<Row>) {
+/// The programs without signals of their own, and the random tables.
+fn plain_listings(rows: Vec<Row>) {
     for n in [20, 100, 1000] {
         list(one("start, one reaction".into(), straight(n)), START);
     }
     for n in [100, 1000] {
         list(one("resumed, 8 branches".into(), branches(n)), RESUMED);
     }
-    for mut row in rows {
-        row.tables.retain(|table| accepted(table, START));
-        row.name += ", start";
-        list(row, START);
+    for (state, asked) in [("start", START), ("resumed", RESUMED)] {
+        for Row { name, tables } in &rows {
+            let mut tables = tables.clone();
+            tables.retain(|table| accepted(table, asked));
+            list(Row { name: format!("{name}, {state}"), tables }, asked);
+        }
     }
-    for signals in [0, 4, 8, 12] {
-        let around = |p| inside_signals(signals, p);
-        let name = format!("{signals} nested signals");
-        list(one(format!("start, {name}"), around(straight(100 - 5 * signals))), START);
-        list(one(format!("resumed, {name}"), around(branches(100 - 5 * signals))), RESUMED);
+}
+
+/// Both states of a program that stands behind a pause where it is to be resumed.
+fn both(name: String, around: usize, p: Statement) {
+    list(one(format!("start, {name}"), signals_around(around, p.clone())), START);
+    let paused = signals_around(around, sequence(Pause(1), p));
+    list(one(format!("resumed, {name}"), paused), RESUMED);
+}
+
+/// Signals inside one another: named, tested side by side, emitted and tested, not named at all.
+fn signal_listings() {
+    for n in [100, 300, 1000] {
+        for signals in [0, 4, 8, 12] {
+            let around = |p| named_signals(signals, p);
+            let name = format!("{signals} nested signals");
+            list(one(format!("start, {name}"), around(straight(n - 5 * signals))), START);
+            list(one(format!("resumed, {name}"), around(branches(n - 5 * signals))), RESUMED);
+        }
     }
-    for reactions in [1, 4, 16, 63] {
+    for (tests, signals) in [(3, 3), (6, 6), (7, 7), (8, 8), (7, 12), (12, 12)] {
+        both(format!("{tests} tests in {signals} signals"), signals, side_by_side(tests));
+    }
+    for signals in [4, 8, 12] {
+        let p = emitted_and_tested(signals);
+        both(format!("{signals} signals emitted and tested"), signals, p);
+    }
+    both("12 signals not named".into(), 12, sequence(even(vec![Emit(31); 33], sequence), Pause(2)));
+}
+
+/// Many reactions: by labels that are resumed from, and by local signals that may be either.
+fn crowded_listings() {
+    for reactions in [1, 2, 4, 8, 16, 32, 63] {
         let p = resumed_choices(1..=reactions);
         list(one(format!("resumed, {reactions} reactions"), p), RESUMED);
     }
     let product = parallel(resumed_choices(1..=8), resumed_choices(9..=16));
     list(one("resumed, 8 by 8 reactions".into(), product), RESUMED);
-    for reactions in [4, 16, 64] {
+    for reactions in [1, 2, 4, 8, 16, 32, 64] {
         let p = choices(reactions);
         list(one(format!("start, {reactions} by local signals"), p), START);
     }
@@ -203,7 +253,7 @@ fn main() {
          result buffers are not cleared before a call"
     );
     println!(
-        "{:<6} {:<34} {:>6} {:>10} {:>8} {:>10} {:>8} {:>7}",
+        "{:<6} {:<40} {:>6} {:>10} {:>8} {:>10} {:>8} {:>7}",
         "", "", "nodes", "library ns", "per node", "plain ns", "per node", "ratio"
     );
     let mut random = Random(30);
@@ -211,5 +261,7 @@ fn main() {
     for operation in [check, reach, trim] {
         rows.iter().for_each(operation);
     }
-    listings(random_rows(&mut random, tables));
+    plain_listings(random_rows(&mut random, tables));
+    signal_listings();
+    crowded_listings();
 }

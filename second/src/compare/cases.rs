@@ -1,6 +1,7 @@
 //! The second implementation by itself: cases A to L of document 01, and what must hold of it.
 
 use crate::listing::{signals, subsets, work};
+use crate::made::{grown_tables, tables};
 use crate::reaching::made;
 use crate::trial::{hex, Outcome};
 use crate::Amount;
@@ -85,24 +86,33 @@ pub fn lettered(_: Amount) -> Outcome {
     same("L", trim_program(&l), l)
 }
 
-/// Every refusal as the report program prints it, an empty R, and inputs that are too long.
+/// What report prints: refusals 1 to 12 and what stands one beside a 12, an empty R, and inputs that
+/// are too long. The tables made for a refusal get it.
 pub fn reported(_: Amount) -> Outcome {
-    let refused = |what: &str, input: &[u8], refusal: u32| {
-        same(what, report(input), format!("refused {refusal}\n"))
+    let printed = |what: &str, input: &[u8], refusal: u32| {
+        let lines = report(input);
+        let first = lines.lines().next().unwrap_or_default();
+        let right =
+            if refusal == 0 { first.starts_with("nodes ") } else { lines == refused(refusal) };
+        same(&format!("report on {what} {}", hex(input)), right, true)
     };
+    for (refusal, table) in tables() {
+        same(&format!("check of {}", hex(&table)), check(&table).err().unwrap_or(0), refusal)?;
+        printed("table", &table, refusal)?;
+    }
+    for (refusal, table) in grown_tables() {
+        same(&format!("check of {}", hex(&table)), check(&table).err(), None)?;
+        printed("table", &table, refusal)?;
+    }
     same("A", report(&[0x10, 1, 0, 0]), "nodes 1 1\nlabels\nrounds 1\n".into())?;
-    refused("empty input", &[], 1)?;
-    refused("edition", &[0x20, 1, 0, 0], 2)?;
-    refused("no nodes", &[0x10, 0, 0, 0], 3)?;
-    refused("length", &[0x10, 1, 0], 4)?;
-    refused("padding", &[0x10, 1, 0, 1], 5)?;
-    refused("kind", &[0x10, 1, 0xb0, 0], 6)?;
-    refused("operand", &[0x10, 1, 0x10, 0], 7)?;
-    refused("level", &[0x10, 1, 0x40, 0x40], 9)?;
-    refused("left over", &[0x10, 2, 0, 0, 0], 11)?;
     let long = [0; 1283];
-    refused("long input, edition", &long, 2)?;
-    refused("long input", &[&[0x10, 1][..], &long].concat(), 4)
+    printed("long input, edition", &long, 2)?;
+    printed("long input, count", &[&[0x10, 0][..], &long].concat(), 3)?;
+    printed("long input", &[&[0x10, 1][..], &long].concat(), 4)
+}
+
+fn refused(refusal: u32) -> String {
+    format!("refused {refusal}\n")
 }
 
 /// Reading and writing are inverse; the text of a statement reads back.
@@ -153,7 +163,8 @@ pub fn analysis(amount: Amount) -> Outcome {
     Ok(())
 }
 
-/// Trimmed programs have the same reactions along every run, by the rules alone; a trimmed table
+/// Trimmed programs have the same reactions along runs of up to six steps, by the rules alone, under
+/// the first eight sets of their signals and from five new states a step at most; a trimmed table
 /// that is not refused is accepted by check.
 pub fn trimmed_runs(amount: Amount) -> Outcome {
     let mut random = Random(22);

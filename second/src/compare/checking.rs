@@ -8,7 +8,7 @@ use second::table::{length, pack, write};
 use second::trees::{each_tree, inside_loops, kept};
 
 /// A header for n nodes, then these nodes (kind, operand), in bytes as many as they need.
-fn raw(n: usize, nodes: &[(usize, usize)]) -> Vec<u8> {
+pub fn raw(n: usize, nodes: &[(usize, usize)]) -> Vec<u8> {
     let mut fields = vec![(1, 4), (n, 12)];
     for &(kind, operand) in nodes {
         fields.extend([(kind, 4), (operand, 6)]);
@@ -16,8 +16,9 @@ fn raw(n: usize, nodes: &[(usize, usize)]) -> Vec<u8> {
     pack(&fields, length(nodes.len()))
 }
 
-/// Every one-node table under its own header and those that differ in one bit; a sample under those
-/// that differ in two; every header over one node; too few and too many bytes.
+/// The header of one node before every two bytes; from 100 percent on also each header that differs
+/// in one bit before every two bytes, and every header alone and before up to three zero bytes; a
+/// sample of headers that differ in two bits.
 pub fn one_node(t: &mut Trial, amount: Amount) -> Outcome {
     let header = 0x1001_u16;
     let step = amount.step();
@@ -46,14 +47,15 @@ pub fn one_node(t: &mut Trial, amount: Amount) -> Outcome {
     Ok(())
 }
 
-/// Every small tree, also those with a label twice or an exit too high.
+/// Every tree of a few nodes over these leaves, S0 being the only signal of inner nodes, also those
+/// with a label twice or an exit too high.
 pub fn small_trees(t: &mut Trial, amount: Amount) -> Outcome {
     let leaves =
         [Nothing, Pause(1), Pause(2), Gotopause(1), Gotopause(63), Emit(31), Exit(1), Exit(2)];
     (1..=amount.tree_nodes()).try_for_each(|n| each_tree(n, &leaves, &mut |p| t.check(&write(p))))
 }
 
-/// The edges that document 01 names for check, and what stands one beside them.
+/// The edges that document 01 names for check, with what stands beside them.
 pub fn edge_tables() -> Vec<Vec<u8>> {
     [length_edges(), depth_edges(), node_edges()].concat()
 }

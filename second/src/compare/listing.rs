@@ -5,8 +5,8 @@ use crate::tool::Asked;
 use crate::trial::{Outcome, Seen, Trial};
 use crate::trimming::AMPLE;
 use crate::Amount;
-use second::list::{state, too_many, MOST_REACTIONS};
-use second::random::{any_table, statement, Random, TASTES};
+use second::list::{state, too_many, MOST_REACTIONS, MOST_SIGNALS};
+use second::random::{any_table, statement, Random, Taste, TASTES};
 use second::react::react;
 use second::statement::Statement::{self, *};
 use second::table::{read, write};
@@ -15,7 +15,7 @@ use second::trees::*;
 use std::collections::BTreeSet;
 
 /// Buffers for 70 reactions.
-const ROOMY: [usize; 3] = [4 * 70, 70, 8 * 70];
+pub const ROOMY: [usize; 3] = [4 * 70, 70, 8 * 70];
 
 /// The signals that a statement uses, also in declarations.
 pub fn signals(p: &Statement) -> u32 {
@@ -42,15 +42,17 @@ pub fn work(p: &Statement) -> usize {
     1 + if matches!(p, Signal(_, _)) { 2 * below } else { below }
 }
 
-fn start(assumed: u32) -> Asked {
+pub fn start(assumed: u32) -> Asked {
     Asked { assumed, mark: 0, labels: u64::MAX }
 }
 
-fn resumed(assumed: u32, labels: u64) -> Asked {
+pub fn resumed(assumed: u32, labels: u64) -> Asked {
     Asked { assumed, mark: 1, labels }
 }
 
-/// Every small tree, at the start and at every label set, under every E.
+/// Every tree of a few nodes over these leaves that check accepts, S0 being the only signal of inner
+/// nodes: at the start and resumed from every set of its own labels, with nothing assumed and, where
+/// the tree uses S0, with S0.
 pub fn small_trees(t: &mut Trial, amount: Amount) -> Outcome {
     let leaves = [Nothing, Pause(1), Pause(2), Gotopause(1), Emit(0), Exit(1)];
     for n in 1..=amount.tree_nodes() {
@@ -126,11 +128,12 @@ pub fn reactions_edge(t: &mut Trial, _: Amount) -> Outcome {
 }
 
 /// So many signals inside one another, around a statement; the innermost is S0.
-fn inside_signals(count: usize, p: Statement) -> Statement {
+pub fn inside_signals(count: usize, p: Statement) -> Statement {
     (0..count).fold(p, |p, i| Signal(i as u8, p.into()))
 }
 
-/// 11 to 14 nested signals, also where a listing does not meet them, and 1,024 nodes.
+/// 11 to 14 signals inside one another, also where a listing does not meet them; 1,021 to 1,024
+/// nodes; depth 60.
 pub fn signals_edge(t: &mut Trial, _: Amount) -> Outcome {
     let body = parse("present S0 then emit S0 || emit S1 else emit S31 ; 1:pause end");
     for count in 11..=14 {
@@ -155,7 +158,7 @@ pub fn signals_edge(t: &mut Trial, _: Amount) -> Outcome {
     ask(t, &inside_loops(59, Pause(1)), resumed(0, 2))
 }
 
-/// Tables of depth 60 with lists that need list's largest area: the most stack that list can use.
+/// Tables of depth 60 with lists that need list's largest area, made to use as much stack as list can.
 pub fn largest_stack(t: &mut Trial, _: Amount) -> Outcome {
     let crowd = inside_signals(4, sequence(Pause(62), choices(64)));
     for join in [present, sequence, parallel] {
@@ -168,7 +171,8 @@ pub fn largest_stack(t: &mut Trial, _: Amount) -> Outcome {
     Ok(())
 }
 
-/// Every buffer length around the count, in each of the three.
+/// In each of the three buffers, every length from a place and a byte under what the reactions need
+/// to two places and a byte over it; all three just long enough; all three empty.
 pub fn buffers(t: &mut Trial, amount: Amount) -> Outcome {
     let mut random = Random(8);
     let mut programs: Vec<Statement> =
@@ -196,8 +200,9 @@ pub fn buffers(t: &mut Trial, amount: Amount) -> Outcome {
     Ok(())
 }
 
-/// Random programs under every E over a few signals, at the start, at every label set where there
-/// are few labels, else at random ones.
+/// Random programs of 3 to 40 nodes, under the first 16 sets of their signals, at the start and
+/// resumed from every set of their labels where there are at most two, else from five random sets.
+/// Programs whose listing would take too long are passed over.
 pub fn random_programs(t: &mut Trial, amount: Amount) -> Outcome {
     let mut random = Random(9);
     for _ in 0..amount.of(8_000) {
@@ -275,7 +280,113 @@ pub fn crowded_programs(t: &mut Trial, amount: Amount) -> Outcome {
     Ok(())
 }
 
-/// Tables of any sort and size, with buffers of any length.
+/// A leaf or a small part, without pauses and without tests of these signals.
+fn small(random: &mut Random, signals: u8) -> Statement {
+    let emit = |random: &mut Random| Emit(random.below(usize::from(signals) + 2) as u8);
+    match random.below(6) {
+        0 => Nothing,
+        1 => Gotopause(random.between(1, 8) as u8),
+        2 | 3 => emit(random),
+        4 => sequence(emit(random), emit(random)),
+        _ => choice(Nothing, emit(random)),
+    }
+}
+
+/// Tests of the signals side by side: each doubles the cases that a listing without an E would have
+/// to tell apart. Now and then a test emits its own signal, which then may be either, and each such
+/// test doubles the reactions.
+fn side_by_side(random: &mut Random, signals: u8, tests: usize) -> Statement {
+    let parts = (0..tests)
+        .map(|i| {
+            let signal = (i % (usize::from(signals) + 2)) as u8;
+            let (p, q) = (small(random, signals), small(random, signals));
+            let p = if random.one_in(3) { sequence(Emit(signal), p) } else { p };
+            Present(signal, p.into(), q.into())
+        })
+        .collect();
+    let tests = uneven(random, parts, &[parallel, parallel, sequence]);
+    match random.below(4) {
+        0 => tests,
+        1 => Loop(sequence(Pause(1), tests).into()),
+        2 => sequence(Pause(1), tests),
+        _ => parallel(sequence(tests, Pause(2)), sequence(Pause(1), small(random, signals))),
+    }
+}
+
+/// A random program that emits and tests S0 and up, so many signals and two more.
+fn testing(random: &mut Random, signals: u8, n: usize) -> Statement {
+    let taste = Taste {
+        signals: signals + 2,
+        labels: 6,
+        leaves: [1, 3, 1, 6, 1],
+        inner: [0, 6, 4, 4, 1, 1],
+    };
+    statement(random, &taste, n, 30)
+}
+
+/// A program inside so many signals, most of which it emits and tests. Between them, now and then, a
+/// loop, a try or another part; now and then one signal is declared twice.
+fn tested(random: &mut Random, signals: u8, n: usize) -> Statement {
+    let body = match random.below(6) {
+        0 | 1 => {
+            let tests = random.between(1, if signals > 8 { 8 } else { 10 });
+            side_by_side(random, signals, tests)
+        }
+        2 => {
+            let tests = side_by_side(random, signals, 3);
+            Try(parallel(tests, ambiguous(random, 3)).into())
+        }
+        _ => testing(random, signals, n),
+    };
+    (0..signals).fold(body, |p, i| {
+        let signal = if random.one_in(12) { random.below(signals.into()) as u8 } else { i };
+        let p = Signal(signal, p.into());
+        match random.below(16) {
+            0 => Loop(p.into()),
+            1 => Try(p.into()),
+            2 => sequence(small(random, signals), p),
+            3 => parallel(p, small(random, signals)),
+            _ => p,
+        }
+    })
+}
+
+/// Programs inside 0 to 12 signals that have many tests of them: under a random E at the start and
+/// resumed from all labels, under another resumed from a random set. The more signals, the fewer and
+/// the smaller the programs; inside up to four, a few have hundreds of nodes.
+pub fn tested_signals(t: &mut Trial, amount: Amount) -> Outcome {
+    let mut random = Random(14);
+    for signals in 0..=MOST_SIGNALS {
+        let mut programs = vec![inside_signals(signals, testing(&mut random, signals as u8, 10))];
+        while programs.len() < amount.of(600.min(6 << (MOST_SIGNALS - signals))) {
+            let n = match signals {
+                0..=4 if random.one_in(10) => random.between(100, 400),
+                0..=8 => random.between(4, 30),
+                _ => random.between(4, 16),
+            };
+            let p = tested(&mut random, signals as u8, n);
+            if p.nested_signals() <= MOST_SIGNALS && work(&p) <= 200_000 {
+                programs.push(p);
+            }
+        }
+        for p in programs {
+            let table = write(&p);
+            let assumed = random.next() as u32;
+            let mut states = vec![start(assumed), resumed(assumed, u64::MAX)];
+            states.push(resumed(random.next() as u32, random.next()));
+            for asked in states {
+                let listed = t.list(&table, asked, ROOMY)?;
+                if listed.is_some() {
+                    t.counts.inside[p.nested_signals()] += 1;
+                }
+            }
+        }
+    }
+    Ok(())
+}
+
+/// The edges of check, and random tables, valid and damaged, with buffers of any length up to 70
+/// reactions. Programs whose listing would take too long are passed over.
 pub fn random_tables(t: &mut Trial, amount: Amount) -> Outcome {
     let mut random = Random(10);
     for table in edge_tables() {
@@ -298,8 +409,8 @@ pub fn random_tables(t: &mut Trial, amount: Amount) -> Outcome {
     Ok(())
 }
 
-/// Steps a table and its trimmed table along common runs and compares the two listings at every
-/// state met, under every E.
+/// Steps a table and its trimmed table along common runs, up to eight steps, and compares the two
+/// listings under the first 16 sets of its signals. Each step goes on from six new states at most.
 pub fn runs(t: &mut Trial, amount: Amount) -> Outcome {
     let mut random = Random(11);
     for _ in 0..amount.of(10_000) {

@@ -1,5 +1,5 @@
-//! The tests: the second implementation by itself, the proved library against it, and faults that
-//! the comparison has to report.
+//! The tests: the second implementation by itself, faults that the comparison has to report, and
+//! then the plain implementation and the proved library against the second.
 //!
 //! second                  the bounded part
 //! second --long           more than ten million calls
@@ -11,7 +11,9 @@
 
 mod cases;
 mod checking;
+mod faults;
 mod listing;
+mod made;
 mod reaching;
 mod samples;
 mod tool;
@@ -21,7 +23,7 @@ mod trimming;
 use second::met;
 use std::process::ExitCode;
 use std::time::Instant;
-use tool::{Fault, Library, Operation, Plain, Planted, Second, FAULTS, OPERATIONS};
+use tool::{Library, Operation, Plain, OPERATIONS};
 use trial::{Outcome, Trial};
 
 /// How much to test, in percent of the bounded part.
@@ -33,12 +35,12 @@ impl Amount {
         (calls * self.0).div_ceil(100)
     }
 
-    /// Visit every so-manyth case of an exhaustive test.
+    /// Visit every so-manyth case of a test that is exhaustive from 100 percent on.
     pub fn step(self) -> usize {
         100_usize.div_ceil(self.0).next_power_of_two()
     }
 
-    /// The nodes of the largest trees that are all visited.
+    /// Up to so many nodes, every tree over the leaves of a test is visited.
     pub fn tree_nodes(self) -> usize {
         match self.0 {
             0..=9 => 4,
@@ -53,24 +55,28 @@ type Group = (&'static str, fn(&mut Trial, Amount) -> Outcome);
 fn groups(operation: Operation) -> &'static [Group] {
     match operation {
         Operation::Check => &[
+            ("each refusal", made::check),
             ("one-node tables", checking::one_node),
             ("small trees", checking::small_trees),
             ("edges", checking::edges),
             ("random tables", checking::random_tables),
         ],
         Operation::Reach => &[
+            ("each refusal", made::reach),
             ("small trees", reaching::small_trees),
             ("edges", reaching::edges),
             ("chains, jumps, exits", reaching::made_tables),
             ("random tables", reaching::random_tables),
         ],
         Operation::Trim => &[
+            ("each refusal", made::trim),
             ("small trees", trimming::small_trees),
-            ("edges, 1,024 nodes and depth 60", trimming::edges),
-            ("every buffer length", trimming::buffers),
+            ("edges, around 1,024 nodes and depth 60", trimming::edges),
+            ("buffer lengths", trimming::buffers),
             ("random tables", trimming::random_tables),
         ],
         Operation::List => &[
+            ("each refusal", made::list),
             ("small trees", listing::small_trees),
             ("64 and 65 reactions", listing::reactions_edge),
             ("12 and 13 signals", listing::signals_edge),
@@ -78,6 +84,7 @@ fn groups(operation: Operation) -> &'static [Group] {
             ("buffer lengths", listing::buffers),
             ("random programs", listing::random_programs),
             ("crowded programs", listing::crowded_programs),
+            ("tests inside 0 to 12 signals", listing::tested_signals),
             ("edges and random tables", listing::random_tables),
         ],
     }
@@ -106,7 +113,9 @@ impl Results {
         }
     }
 
-    /// Compares a tool with the second implementation, and sees that nothing was left unmet.
+    /// Compares a tool with the second implementation, and sees that each thing which the counts name
+    /// was met: the refusals of each operation, the sizes and kinds of nodes in what it accepts, the
+    /// sights, the cases of trimming, the rules of Figure 3, the nestings of signals.
     fn compare(&mut self, t: &mut Trial, name: &str, operations: &[Operation], amount: Amount) {
         met::clear();
         for operation in operations {
@@ -117,7 +126,7 @@ impl Results {
         if operations.contains(&Operation::Trim) && operations.contains(&Operation::List) {
             self.run(&format!("{name}: runs of the trimmed table"), || listing::runs(t, amount));
         }
-        self.run(&format!("{name}: everything was met"), || {
+        self.run(&format!("{name}: what is counted was met"), || {
             let missing = t.counts.missing(operations);
             if missing.is_empty() {
                 return Ok(());
@@ -128,36 +137,27 @@ impl Results {
     }
 }
 
-/// Each fault has to be reported by a comparison of its operation.
+/// Faults planted in the calls made for each refusal.
 fn planted() -> Outcome {
-    for fault in FAULTS {
-        for operation in OPERATIONS {
-            let none_beyond = matches!(operation, Operation::Check | Operation::Reach);
-            if fault == Fault::Beyond && none_beyond {
-                continue;
-            }
-            let tool = Planted::new(fault);
-            let mut t = Trial::new(&tool);
-            let (_, test) = groups(operation).last().unwrap();
-            if test(&mut t, Amount(1)).is_ok() {
-                return Err(format!("the fault {fault:?} in {operation:?} was not reported"));
-            }
-        }
+    for operation in OPERATIONS {
+        let (_, test) = groups(operation)[0];
+        let (faults, calls) = faults::planted(operation, &|t| test(t, Amount(1)))?;
+        println!("  {operation:?}: {faults} faults, planted in {calls} calls one at a time");
     }
-    // and without a fault nothing is reported
-    let mut t = Trial::new(&Second);
-    OPERATIONS.iter().try_for_each(|op| groups(*op).last().unwrap().1(&mut t, Amount(1)))
+    Ok(())
 }
 
-/// A few calls of each operation of the library, and those of the largest stack, for a run under a
-/// memory checker.
+/// Calls of each operation of the library for a run under a memory checker: those made for each
+/// refusal, some random ones, and those of the largest stack.
 fn memory(results: &mut Results) {
     let mut t = Trial::new(&Library);
     t.margin = 0;
     results.run("memory of the largest stack", || listing::largest_stack(&mut t, Amount(1)));
     for operation in OPERATIONS {
-        let (_, test) = groups(operation).last().unwrap();
-        results.run(&format!("memory of {operation:?}"), || test(&mut t, Amount(1)));
+        let groups = groups(operation);
+        for (name, test) in [groups[0], groups[groups.len() - 1]] {
+            results.run(&format!("memory of {operation:?}: {name}"), || test(&mut t, Amount(1)));
+        }
     }
 }
 

@@ -67,6 +67,7 @@ pub fn made(random: &mut Random) -> Statement {
     }
 }
 
+/// Every tree of a few nodes over these leaves, S0 being the only signal of inner nodes.
 pub fn small_trees(t: &mut Trial, amount: Amount) -> Outcome {
     let leaves = [Nothing, Pause(1), Pause(2), Gotopause(1), Gotopause(2), Exit(1), Exit(2)];
     (1..=amount.tree_nodes()).try_for_each(|n| each_tree(n, &leaves, &mut |p| t.reach(&write(p))))

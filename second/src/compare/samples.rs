@@ -1,6 +1,7 @@
-//! The samples, and the program report on them and on inputs of every sort.
+//! The samples, and the program report on them and on other inputs.
 
 use crate::checking::edge_tables;
+use crate::made::{grown_tables, tables};
 use crate::trial::{hex, Outcome};
 use second::random::{any_table, Random};
 use second::report::report;
@@ -56,12 +57,12 @@ pub fn write_samples() {
     }
 }
 
-/// The built program on the samples, on the edges of check, on long inputs and on random ones.
-pub fn program() -> Outcome {
-    let path = env::var("DESKHERON_REPORT")
-        .map_or_else(|_| repository().join("target/bin/report"), PathBuf::from);
+/// The samples, the tables made for refusals 1 to 12, every ninth edge of check, long inputs, and 200
+/// random tables.
+fn inputs() -> Vec<Vec<u8>> {
     let mut inputs: Vec<Vec<u8>> =
         named("table").iter().map(|name| fs::read(name.with_extension("table")).unwrap()).collect();
+    inputs.extend([tables(), grown_tables()].concat().into_iter().map(|(_, table)| table));
     inputs.extend(edge_tables().into_iter().step_by(9));
     for long in [1281, 1282, 1283, 1284, 5000, 100_000] {
         for header in [[0x10, 1], [0x14, 0], [0x14, 1], [0x20, 1], [0, 0]] {
@@ -70,15 +71,33 @@ pub fn program() -> Outcome {
     }
     let mut random = Random(13);
     inputs.extend((0..200).map(|_| any_table(&mut random)));
-    for input in inputs {
+    inputs
+}
+
+/// The built program prints for each input what the second implementation does; it is met with each
+/// of the refusals 1 to 12, and with tables that it accepts.
+pub fn program() -> Outcome {
+    let path = env::var("DESKHERON_REPORT")
+        .map_or_else(|_| repository().join("target/bin/report"), PathBuf::from);
+    let mut met = [0_u32; 13];
+    for input in inputs() {
         let given = run(&path, &input).map_err(|e| format!("{}: {e}", path.display()))?;
         let wanted = report(&input);
         if given != wanted.as_bytes() {
             let given = String::from_utf8_lossy(&given);
             return Err(format!("report prints {given} and not {wanted} for {}", hex(&input)));
         }
+        let refusal =
+            wanted.strip_prefix("refused ").map_or(0, |rest| rest.trim().parse().unwrap());
+        met[refusal] += 1;
     }
-    Ok(())
+    let refused: Vec<String> = (1..=12).map(|n| format!("{n}: {}", met[n])).collect();
+    println!("  report: accepted {}, refused {}", met[0], refused.join(", "));
+    match met.iter().position(|count| *count == 0) {
+        Some(0) => Err("report accepted nothing".into()),
+        Some(refusal) => Err(format!("report never printed refusal {refusal}")),
+        None => Ok(()),
+    }
 }
 
 fn run(program: &Path, input: &[u8]) -> std::io::Result<Vec<u8>> {

@@ -1,9 +1,8 @@
 //! What is compared: something that answers the four calls of the C interface. The proved library,
-//! the second implementation, and the second implementation with a fault planted in it.
+//! the second implementation, and the plain one of the benchmark.
 
 pub use second::plain::Asked;
 use second::{codes, library, list, plain, table, trim};
-use std::cell::Cell;
 
 #[derive(Clone, Copy, Debug, PartialEq, Eq)]
 pub enum Operation {
@@ -129,90 +128,5 @@ impl Tool for Library {
 
     fn list(&self, table: &[u8], asked: Asked, lent: [&mut [u8]; 3], count: &mut u32) -> u32 {
         library::list(table, asked, lent, count)
-    }
-}
-
-/// A fault, to see that a comparison reports it.
-#[derive(Clone, Copy, Debug, PartialEq, Eq)]
-pub enum Fault {
-    /// another number is answered
-    Number,
-    /// a cell is touched although the table is refused
-    Touched,
-    /// one bit of an accepted result is flipped
-    Result,
-    /// a byte after an accepted result is changed
-    Beyond,
-}
-
-pub const FAULTS: [Fault; 4] = [Fault::Number, Fault::Touched, Fault::Result, Fault::Beyond];
-
-/// The second implementation with a fault in every hundredth call to which the fault applies.
-pub struct Planted {
-    pub fault: Fault,
-    pub turns: Cell<u32>,
-}
-
-impl Planted {
-    pub fn new(fault: Fault) -> Planted {
-        Planted { fault, turns: Cell::new(0) }
-    }
-
-    /// Spoils an answer where it is its turn.
-    fn spoil(
-        &self,
-        answer: u32,
-        touch: &mut dyn FnMut(),
-        flip: &mut dyn FnMut(),
-        beyond: Option<&mut u8>,
-    ) -> u32 {
-        let refused = answer != 0;
-        let applies = match self.fault {
-            Fault::Number => true,
-            Fault::Touched => refused,
-            Fault::Result => !refused,
-            Fault::Beyond => !refused && beyond.is_some(),
-        };
-        self.turns.set(self.turns.get() + u32::from(applies));
-        if !applies || self.turns.get() % 100 != 0 {
-            return answer;
-        }
-        match self.fault {
-            Fault::Number => return answer + 1,
-            Fault::Touched => touch(),
-            Fault::Result => flip(),
-            Fault::Beyond => *beyond.unwrap() ^= 1,
-        }
-        answer
-    }
-}
-
-impl Tool for Planted {
-    fn check(&self, table: &[u8], nodes: &mut u32) -> u32 {
-        let answer = Second.check(table, nodes);
-        let cell = Cell::from_mut(nodes);
-        let change = || cell.set(cell.get() ^ 1);
-        self.spoil(answer, &mut { change }, &mut { change }, None)
-    }
-
-    fn reach(&self, table: &[u8], cells: &mut ReachCells) -> u32 {
-        let answer = Second.reach(table, cells);
-        let ReachCells { reached, rounds, .. } = cells;
-        self.spoil(answer, &mut || *rounds ^= 1, &mut || *reached ^= 2, None)
-    }
-
-    fn trim(&self, table: &[u8], out: &mut [u8], nodes: &mut u32, bytes: &mut usize) -> u32 {
-        let answer = Second.trim(table, out, nodes, bytes);
-        let (written, rest) = out.split_at_mut(if answer == 0 { *bytes } else { 0 });
-        self.spoil(answer, &mut || *nodes ^= 1, &mut || written[3] ^= 64, rest.last_mut())
-    }
-
-    fn list(&self, table: &[u8], asked: Asked, lent: [&mut [u8]; 3], count: &mut u32) -> u32 {
-        let [o, k, l] = lent;
-        let answer = Second.list(table, asked, [&mut *o, &mut *k, &mut *l], count);
-        let places = if answer == 0 { *count as usize } else { 0 };
-        let (written, _) = k.split_at_mut(places);
-        let flip = &mut || written.iter_mut().for_each(|k| *k ^= 1);
-        self.spoil(answer, &mut || *count ^= 1, flip, l[8 * places..].last_mut())
     }
 }

@@ -1,9 +1,10 @@
 //! One tool against the second implementation: each call is made on both sides with everything
-//! lent painted alike, and all of it is compared afterwards. What was met is counted.
+//! lent painted alike, and all of it is compared afterwards, a margin on both sides of a buffer and
+//! the table included. What was met is counted.
 
 use crate::tool::{Asked, Operation, ReachCells, Second, Tool};
-use second::list::MOST_REACTIONS;
-use second::met::{count, CASES, RULES};
+use second::list::{MOST_REACTIONS, MOST_SIGNALS};
+use second::met::{count, counting, Event, CASES, RULES};
 use second::react::Reaction;
 use second::table::{bits, read};
 use second::text::print;
@@ -13,18 +14,26 @@ use std::fmt::Debug;
 /// The reactions, none where the call was refused.
 pub type Listed = Result<Option<Vec<Reaction>>, String>;
 
-/// The largest node counts of the size classes.
+/// The largest node counts of the size classes of accepted tables.
 const SIZES: [usize; 7] = [1, 4, 16, 64, 256, 1023, 1024];
 
-/// What happened on the way that the tables' answers do not show.
+/// Sights: what the numbers answered do not show.
 #[derive(Clone, Copy, Debug)]
 pub enum Seen {
+    /// the trimmed table differs from the table
     TrimmedChanged,
+    /// it has more nodes
     TrimmedGrew,
+    /// more than 20
     ManyRounds,
+    /// 64 reactions
     FullListing,
+    /// none
     EmptyListing,
+    /// 15 where the table's own list has at most 64 reactions
     InnerTooMany,
+    /// listings of a table and of its trimmed table, the same and not empty, after three or more
+    /// steps of a run
     LongRun,
 }
 
@@ -45,7 +54,12 @@ pub struct Counts {
     sizes: [[u64; SIZES.len()]; 4],
     kinds: [[u64; 11]; 4],
     seen: [u64; SEEN.len()],
+    /// accepted listings of the programs made for it, by the signals inside one another
+    pub inside: [u64; MOST_SIGNALS + 1],
 }
+
+/// A sort of things that have to be met, with each of them and how often it was.
+type Sort = (&'static str, Vec<(String, u64)>);
 
 impl Counts {
     /// Notes the second implementation's answer to a call.
@@ -66,40 +80,50 @@ impl Counts {
         self.seen[seen as usize] += 1;
     }
 
-    /// What should have been met by these operations and was not.
-    pub fn missing(&self, operations: &[Operation]) -> Vec<String> {
-        let mut missing = Vec::new();
-        let mut want = |count: u64, name: String| {
-            if count == 0 {
-                missing.push(name);
-            }
-        };
+    /// What these operations have to meet.
+    fn to_meet(&self, operations: &[Operation]) -> Vec<Sort> {
+        let [mut refused, mut sizes, mut kinds] = [const { Vec::new() }; 3];
         for &operation in operations {
             let at = operation as usize;
             for refusal in refusals(operation) {
-                want(self.refusals[at][refusal], format!("{operation:?} refused {refusal}"));
+                let count = self.refusals[at][refusal];
+                refused.push((format!("{operation:?} refused {refusal}"), count));
             }
-            for (i, most) in SIZES.iter().enumerate() {
-                want(self.sizes[at][i], format!("{operation:?} accepted up to {most} nodes"));
+            for (most, count) in SIZES.iter().zip(self.sizes[at]) {
+                sizes.push((format!("{operation:?} accepted up to {most} nodes"), count));
             }
-            for kind in 0..11 {
-                want(self.kinds[at][kind], format!("{operation:?} accepted kind {kind}"));
-            }
-        }
-        for seen in SEEN {
-            if due(seen, operations) {
-                want(self.seen[seen as usize], format!("{seen:?}"));
+            for (kind, count) in self.kinds[at].into_iter().enumerate() {
+                kinds.push((format!("{operation:?} accepted kind {kind}"), count));
             }
         }
-        for (by, events) in [(Operation::List, RULES), (Operation::Trim, CASES)] {
-            for event in events.iter().filter(|_| operations.contains(&by)) {
-                want(count(*event), format!("{event:?}"));
-            }
+        let seen = SEEN.iter().filter(|seen| due(**seen, operations));
+        let seen = seen.map(|seen| (format!("{seen:?}"), self.seen[*seen as usize])).collect();
+        let mut sorts = vec![
+            ("refusals", refused),
+            ("sizes accepted", sizes),
+            ("kinds accepted", kinds),
+            ("sights", seen),
+        ];
+        let events = |all: &[Event]| all.iter().map(|e| (format!("{e:?}"), count(*e))).collect();
+        if operations.contains(&Operation::Trim) {
+            sorts.push(("cases of trimming", events(CASES)));
         }
-        missing
+        if operations.contains(&Operation::List) {
+            sorts.push(("rules of Figure 3", events(RULES)));
+            let inside = self.inside.into_iter().enumerate();
+            let inside = inside.map(|(n, count)| (format!("listed inside {n} signals"), count));
+            sorts.push(("nestings of signals listed", inside.collect()));
+        }
+        sorts
     }
 
-    /// One line for each operation, and one for the rest.
+    /// What should have been met by these operations and was not.
+    pub fn missing(&self, operations: &[Operation]) -> Vec<String> {
+        let due = self.to_meet(operations).into_iter().flat_map(|(_, members)| members);
+        due.filter(|(_, count)| *count == 0).map(|(name, _)| name).collect()
+    }
+
+    /// One line for each operation, one for the sights, and one for all that was to be met.
     pub fn print(&self, operations: &[Operation]) {
         for &operation in operations {
             let at = operation as usize;
@@ -119,11 +143,16 @@ impl Counts {
             .map(|seen| format!("{seen:?} {}", self.seen[*seen as usize]))
             .collect();
         println!("  {}", seen.join(", "));
+        let met = self.to_meet(operations).into_iter().map(|(sort, members)| {
+            let met = members.iter().filter(|(_, count)| *count > 0).count();
+            format!("{met} of {} {sort}", members.len())
+        });
+        println!("  met: {}", met.collect::<Vec<_>>().join(", "));
     }
 }
 
 /// The refusals that an operation can give.
-fn refusals(operation: Operation) -> impl Iterator<Item = usize> {
+pub fn refusals(operation: Operation) -> impl Iterator<Item = usize> {
     let own = match operation {
         Operation::Check | Operation::Reach => 0..0,
         Operation::Trim => 12..14,
@@ -274,7 +303,7 @@ impl Trial<'_> {
         more: impl Fn() -> String,
     ) -> Result<(u32, T), String> {
         let lent = table.to_vec();
-        let wanted = ask(&Second, table);
+        let wanted = counting(|| ask(&Second, table));
         let given = ask(self.tool, &lent);
         self.counts.note(operation, table, wanted.0);
         if given == wanted && lent == table {

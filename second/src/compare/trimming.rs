@@ -13,6 +13,7 @@ use second::trim::trim_program;
 /// A buffer that holds every table.
 pub const AMPLE: usize = 1282;
 
+/// Every tree of a few nodes over these leaves, S0 being the only signal of inner nodes.
 pub fn small_trees(t: &mut Trial, amount: Amount) -> Outcome {
     let leaves =
         [Nothing, Pause(1), Pause(2), Gotopause(1), Gotopause(2), Emit(0), Exit(1), Exit(2)];
@@ -70,7 +71,7 @@ fn at_lengths(t: &mut Trial, p: &Statement) -> Outcome {
         .try_for_each(|buffer| t.trim(&table, buffer).map(|_| ()))
 }
 
-/// Buffers of every length from 0 to two more than needed.
+/// Random tables with buffers of every length from 0 to two more than needed.
 pub fn buffers(t: &mut Trial, amount: Amount) -> Outcome {
     let mut random = Random(6);
     for i in 0..amount.of(1_500) {

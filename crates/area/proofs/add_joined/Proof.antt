@@ -47,8 +47,14 @@ same-length : tie.Need-same-length Inv-loop μ-loop
 same-length c = omega arith
 
 returns : tie.Need-returns Inv-loop μ-loop
-returns c = let s = c .before .before .before .before .before .before .before .before .before .before .before in
-    joins-over (s .args .how) (s .args .w) (s .args .l) (s .args .area .now) (s .args .mid) (s .args .n2) (s .args .top) (s .args .n) (c .before .before .before .before .before .before .before .before .before .loop .area) _ (c .before .before .before .before .before .before .before .before .before .loop .j) (c .before .before .before .before .before .before .before .before .before .loop .inv .1) (s .pre .1) (c .before .before .before .before .before .before .before .before .loop-test .taken) _ (c .before .before .before .before .before .join .ensures) _ _ (c .before .before .before .put .ensures .made) (c .if1 .taken)
+returns c =
+    let at-put = c .before .before .before in
+    let at-join = at-put .before .before in
+    let at-loop-test = at-join .before .before .before in
+    let at-loop = at-loop-test .before in
+    let s = at-loop .before .before in
+    joins-over (s .args .how) (s .args .w) (s .args .l) (s .args .area .now) (s .args .mid) (s .args .n2) (s .args .top) (s .args .n) (at-loop .loop .area) _ (at-loop .loop .j) (at-loop .loop .inv .1) (s .pre .1)
+    (at-loop-test .loop-test .taken) _ (at-join .join .ensures) _ _ (at-put .put .ensures .made) (c .if1 .taken)
 
 add-j : tie.Need-add-j Inv-loop μ-loop
 add-j c = omega arith
@@ -57,10 +63,16 @@ loop-less : tie.Need-loop-less Inv-loop μ-loop
 loop-less c = omega arith
 
 loop-again : tie.Need-loop-again Inv-loop μ-loop
-loop-again c = let s = c .before .before .before .before .before .before .before .before .before .before .before in (
-  omega arith,
-  joins-step (s .args .how) (s .args .w) (s .args .l) (s .args .area .now) (s .args .mid) (s .args .n2) (s .args .top) (s .args .n) (c .before .before .before .before .before .before .before .before .before .loop .area) _ (c .before .before .before .before .before .before .before .before .before .loop .j) (c .before .before .before .before .before .before .before .before .before .loop .inv .1) (s .pre .1) (c .before .before .before .before .before .before .before .before .loop-test .taken) _ (c .before .before .before .before .before .join .ensures) _ _ (c .before .before .before .put .ensures .made) (c .if1 .left),
-)
+loop-again c =
+    let at-put = c .before .before .before in
+    let at-join = at-put .before .before in
+    let at-loop-test = at-join .before .before .before in
+    let at-loop = at-loop-test .before in
+    let s = at-loop .before .before in (
+      omega arith,
+      joins-step (s .args .how) (s .args .w) (s .args .l) (s .args .area .now) (s .args .mid) (s .args .n2) (s .args .top) (s .args .n) (at-loop .loop .area) _ (at-loop .loop .j) (at-loop .loop .inv .1) (s .pre .1)
+          (at-loop-test .loop-test .taken) _ (at-join .join .ensures) _ _ (at-put .put .ensures .made) (c .if1 .left),
+    )
 
 same-length-2 : tie.Need-same-length-2 Inv-loop μ-loop
 same-length-2 c = omega arith

@@ -3,7 +3,7 @@ use mathlib.Core.Path.{ap}
 use mathlib.Core.Logic.{inl, inr}
 use mathlib.Core.List.{List, _++_}
 use Rattle.esterel.specs.Reactions.{Reaction}
-use Rattle.area.specs.Area.{rows, collect}
+use Rattle.area.specs.inner.Area.{rows, collect}
 use Rattle.area.proofs.Made.{made-as}
 use Rattle.area.proofs.Products.{pairs-joined, pairs-alone}
 use borrow.Author.Needs.{needs}
@@ -12,6 +12,9 @@ use Rattle.area.proofs.add_pairs.Tie as tie
 
 enum-told : tie.Need-enum-told
 enum-told c = search needs
+
+ends-requires : tie.Need-ends-requires
+ends-requires c κs = search needs
 
 add-joined-requires : tie.Need-add-joined-requires
 add-joined-requires c κs = search needs
@@ -29,25 +32,51 @@ same-length : tie.Need-same-length
 same-length c = search needs
 
 returns : tie.Need-returns
-returns c = made-as (c .before .before .add-joined .ensures) (ap (λ (z : List Reaction). collect (z ++ rows (c .before .before .before .before .before .before .before .before .args .area .now) (c .before .before .before .before .before .before .before .before .args .top) (c .before .before .before .before .before .before .before .before .args .n))) (pairs-joined (c .before .before .before .before .before .before .before .before .args .how) (rows (c .before .before .before .before .before .before .before .before .args .area .now) (c .before .before .before .before .before .before .before .before .args .mid) (c .before .before .before .before .before .before .before .before .args .n2)) (c .before .before .before .before .before .before .before .before .args .w) (c .before .before .before .before .before .before .before .before .args .l) (inl (c .before .before .before .before .before .enum-told .given .1, c .before .before .before .before .if1 .taken))))
+returns c =
+    let at-add-joined = c .before .before in
+    let at-if1 = at-add-joined .before .before in
+    let at-ends = at-if1 .before in
+    let at-enum-told = at-ends .before in
+    let s = at-enum-told .before .before .before in
+    let a = s .args in
+    made-as (at-add-joined .add-joined .ensures)
+    (ap (λ (z : List Reaction). collect (z ++ rows (a .area .now) (a .top) (a .n)))
+    (pairs-joined (a .how) (rows (a .area .now) (a .mid) (a .n2)) (a .w) (a .l) (inl (at-enum-told .enum-told .given .1, at-ends .ends .ensures .0 (at-if1 .if1 .taken)))))
 
 same-length-2 : tie.Need-same-length-2
 same-length-2 c = search needs
 
 returns-2 : tie.Need-returns-2
-returns-2 c = made-as (c .before .before .put .ensures .made) (ap (λ (z : List Reaction). collect (z ++ rows (c .before .before .before .before .before .before .before .before .args .area .now) (c .before .before .before .before .before .before .before .before .args .top) (c .before .before .before .before .before .before .before .before .args .n))) (pairs-alone (c .before .before .before .before .before .before .before .before .args .how) (rows (c .before .before .before .before .before .before .before .before .args .area .now) (c .before .before .before .before .before .before .before .before .args .mid) (c .before .before .before .before .before .before .before .before .args .n2)) (c .before .before .before .before .before .before .before .before .args .w) (c .before .before .before .before .before .before .before .before .args .l) (c .before .before .before .before .before .enum-told .given .1) (c .before .before .before .before .if1 .left)))
+returns-2 c =
+    let at-put = c .before .before in
+    let at-if1 = at-put .before .before in
+    let at-ends = at-if1 .before in
+    let at-enum-told = at-ends .before in
+    let s = at-enum-told .before .before .before in
+    let a = s .args in
+    made-as (at-put .put .ensures .made)
+    (ap (λ (z : List Reaction). collect (z ++ rows (a .area .now) (a .top) (a .n)))
+    (pairs-alone (a .how) (rows (a .area .now) (a .mid) (a .n2)) (a .w) (a .l) (at-enum-told .enum-told .given .1) (at-ends .ends .ensures .1 (at-if1 .if1 .left))))
 
 same-length-3 : tie.Need-same-length-3
 same-length-3 c = search needs
 
 returns-3 : tie.Need-returns-3
-returns-3 c = made-as (c .before .before .add-joined2 .ensures) (ap (λ (z : List Reaction). collect (z ++ rows (c .before .before .before .before .before .before .before .args .area .now) (c .before .before .before .before .before .before .before .args .top) (c .before .before .before .before .before .before .before .args .n))) (pairs-joined (c .before .before .before .before .before .before .before .args .how) (rows (c .before .before .before .before .before .before .before .args .area .now) (c .before .before .before .before .before .before .before .args .mid) (c .before .before .before .before .before .before .before .args .n2)) (c .before .before .before .before .before .before .before .args .w) (c .before .before .before .before .before .before .before .args .l) (inr (c .before .before .before .before .enum-told2 .given .1))))
+returns-3 c =
+    let at-add-joined2 = c .before .before in
+    let at-enum-told2 = at-add-joined2 .before .before in
+    let s = at-enum-told2 .before .before .before in
+    let a = s .args in
+    made-as (at-add-joined2 .add-joined2 .ensures)
+    (ap (λ (z : List Reaction). collect (z ++ rows (a .area .now) (a .top) (a .n)))
+    (pairs-joined (a .how) (rows (a .area .now) (a .mid) (a .n2)) (a .w) (a .l) (inr (at-enum-told2 .enum-told2 .given .1))))
 
 pub add-pairs-spec : {M : Type 1} → statement M
 add-pairs-spec =
     tie.close
     (tie.spec
     enum-told
+    ends-requires
     add-joined-requires
     put-requires
     enum-told-2

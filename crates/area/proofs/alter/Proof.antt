@@ -40,7 +40,11 @@ slice-read-l : tie.Need-slice-read-l Inv-loop μ-loop
 slice-read-l c = omega (arith, c .before .before .before .before .before .before .pre (c .before .before .before .before .if1 .left), c .before .before .before .loop .inv .filling .same)
 
 alter-one-requires : tie.Need-alter-one-requires Inv-loop μ-loop
-alter-one-requires c κs = let t = c .before .before .before .before .loop .inv in let h = c .before .before .before .before .before .before .before .pre (c .before .before .before .before .before .if1 .left) in (omega (arith, t .behind, c .before .before .before .before .before .if1 .left), omega (arith, t .behind, t .filling .same), t .filling .rising)
+alter-one-requires c κs =
+    let at-loop = c .before .before .before .before in
+    let at-if1 = at-loop .before in
+    let s = at-if1 .before .before in
+    let t = at-loop .loop .inv in let h = s .pre (at-if1 .if1 .left) in (omega (arith, t .behind, at-if1 .if1 .left), omega (arith, t .behind, t .filling .same), t .filling .rising)
 
 add-i : tie.Need-add-i Inv-loop μ-loop
 add-i c = omega arith
@@ -49,7 +53,13 @@ loop-less : tie.Need-loop-less Inv-loop μ-loop
 loop-less c = omega arith
 
 loop-again : tie.Need-loop-again Inv-loop μ-loop
-loop-again c = altering-step _ (c .before .before .before .before .before .before .before .before .before .before .args .area .now) (c .before .before .before .before .before .before .before .loop .area) _ _ _ _ (c .before .before .before .before .before .before .before .loop .inv) _ _ (c .before .before .before .before .before .before .loop-test .taken) (c .before .before .before .before .before .before .before .before .if1 .left) (c .before .before .alter-one .ensures)
+loop-again c =
+    let at-alter-one = c .before .before in
+    let at-loop-test = at-alter-one .before .before .before .before in
+    let at-loop = at-loop-test .before in
+    let at-if1 = at-loop .before in
+    let s = at-if1 .before .before in
+    altering-step _ (s .args .area .now) (at-loop .loop .area) _ _ _ _ (at-loop .loop .inv) _ _ (at-loop-test .loop-test .taken) (at-if1 .if1 .left) (at-alter-one .alter-one .ensures)
 
 same-length : tie.Need-same-length Inv-loop μ-loop
 same-length c = omega arith

@@ -4,14 +4,14 @@ use mathlib.Core.Bool.{true, false}
 use Prim.Native.Nat.{ℕ, _+_, _*_, _≤_, _<_}
 use borrow.Author.Tests.{not-true, not-false}
 use Rattle.esterel.specs.Listing.{before}
-use Rattle.area.specs.Area.{packed, row}
+use Rattle.area.specs.inner.Area.{packed, rowAt}
 use Rattle.area.proofs.Moves.{place-step, last-is}
 use native.Mathlib.Omega.{arith}
 use Rattle.area.proofs.place.Statement.{statement}
 use Rattle.area.proofs.place.Tie as tie
 
 abbrev Inv-loop : tie.InvT-loop
-Inv-loop area base n w l j₀ j = (j ≤ n) × ((i : ℕ) → j ≤ i → i < n → before (packed w l) (row area (base + 2 * i)) ≡ true)
+Inv-loop area base n w l j₀ j = (j ≤ n) × ((i : ℕ) → j ≤ i → i < n → before (packed w l) (rowAt area (base + 2 * i)) ≡ true)
 
 abbrev μ-loop : tie.MeasureT-loop
 μ-loop area base n w l j₀ j = j
@@ -52,7 +52,7 @@ returns c = let s = c .before .before .before .before .before in
     record {
       within = s .loop .inv .0;
       above = s .loop .inv .1;
-      last = last-is (s .loop .j) (c .before .before .before .before .loop-test .taken) (λ k. before (packed (a .w) (a .l)) (row (a .area .now) (a .base + 2 * k)) ≡ false) (sym (c .before .less .ensures) ∙ not-true _ (c .if1 .taken));
+      last = last-is (s .loop .j) (c .before .before .before .before .loop-test .taken) (λ k. before (packed (a .w) (a .l)) (rowAt (a .area .now) (a .base + 2 * k)) ≡ false) (sym (c .before .less .ensures) ∙ not-true _ (c .if1 .taken));
     }
 
 loop-less : tie.Need-loop-less Inv-loop μ-loop

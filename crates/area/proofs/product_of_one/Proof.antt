@@ -47,7 +47,11 @@ same-length : tie.Need-same-length
 same-length c = search needs
 
 returns : tie.Need-returns
-returns c = product-one (c .before .before .before .before .before .before .before .before .before .before .args .how) (c .before .before .before .before .before .before .before .before .before .before .args .area .now) _ (c .before .before .before .before .before .before .before .before .before .before .args .base) _ _ _ (c .before .before .before .before .meet .ensures) (c .before .before .one .ensures)
+returns c =
+    let at-one = c .before .before in
+    let at-meet = at-one .before .before in
+    let s = at-meet .before .before .before .before .before .before in
+    product-one (s .args .how) (s .args .area .now) _ (s .args .base) _ _ _ (at-meet .meet .ensures) (at-one .one .ensures)
 
 pub product-of-one-spec : {M : Type 1} → statement M
 product-of-one-spec =

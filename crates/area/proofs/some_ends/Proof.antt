@@ -1,9 +1,8 @@
 -- The invariant: some reaction ends exactly if one from the i-th on does.
-use mathlib.Core.Path.{_≡_}
+use mathlib.Core.Path.{_≡_, ap}
 use Prim.Native.Nat.{_+_, _*_, _-_}
 use Rattle.esterel.specs.Listing.{someEnds}
-use Rattle.area.specs.Area.{rows}
-use mathlib.Core.Path.{ap}
+use Rattle.area.specs.inner.Area.{rows}
 use Rattle.area.proofs.Rows.{rows-whole}
 use Rattle.area.proofs.Changes.{ends-here, ends-next, ends-not}
 use native.Mathlib.Omega.{arith}
@@ -17,22 +16,30 @@ abbrev μ-loop : tie.MeasureT-loop
 μ-loop area base n i₀ i = n - i
 
 loop-holds : tie.Need-loop-holds Inv-loop μ-loop
-loop-holds c = ap someEnds (rows-whole (c .args .area .now) (c .args .base) (c .args .n))
+loop-holds c = ap someEnds (rows-whole (c .before .args .area .now) (c .before .args .base) (c .before .args .n))
 
-mul-if1 : tie.Need-mul-if1 Inv-loop μ-loop
-mul-if1 c = omega arith
+mul-ends : tie.Need-mul-ends Inv-loop μ-loop
+mul-ends c = omega arith
 
-add-if1 : tie.Need-add-if1 Inv-loop μ-loop
-add-if1 c = omega arith
+add-ends : tie.Need-add-ends Inv-loop μ-loop
+add-ends c = omega arith
 
-mul-if1-2 : tie.Need-mul-if1-2 Inv-loop μ-loop
-mul-if1-2 c = omega arith
+mul-ends-2 : tie.Need-mul-ends-2 Inv-loop μ-loop
+mul-ends-2 c = omega arith
 
-shared-slice-read-if1 : tie.Need-shared-slice-read-if1 Inv-loop μ-loop
-shared-slice-read-if1 c = omega arith
+shared-slice-read-ends : tie.Need-shared-slice-read-ends Inv-loop μ-loop
+shared-slice-read-ends c = omega arith
+
+ends-requires : tie.Need-ends-requires Inv-loop μ-loop
+ends-requires c κs = tt
 
 returns : tie.Need-returns Inv-loop μ-loop
-returns c = ends-here (c .before .before .before .before .args .area .now) (c .before .before .before .before .args .base) (c .before .before .before .before .args .n) (c .before .before .before .loop .i) (c .before .before .before .loop .inv) (c .before .before .loop-test .taken) (c .if1 .taken)
+returns c =
+    let at-ends = c .before in
+    let at-loop-test = at-ends .before .before in
+    let at-loop = at-loop-test .before in
+    let s = at-loop .before .before in
+    let a = s .args in ends-here (a .area .now) (a .base) (a .n) (at-loop .loop .i) (at-loop .loop .inv) (at-loop-test .loop-test .taken) (at-ends .ends .ensures .0 (c .if1 .taken))
 
 add-i : tie.Need-add-i Inv-loop μ-loop
 add-i c = omega arith
@@ -41,10 +48,15 @@ loop-less : tie.Need-loop-less Inv-loop μ-loop
 loop-less c = omega arith
 
 loop-again : tie.Need-loop-again Inv-loop μ-loop
-loop-again c = ends-next (c .before .before .before .before .args .area .now) (c .before .before .before .before .args .base) (c .before .before .before .before .args .n) (c .before .before .before .loop .i) (c .before .before .before .loop .inv) (c .before .before .loop-test .taken) (c .if1 .left)
+loop-again c =
+    let at-ends = c .before in
+    let at-loop-test = at-ends .before .before in
+    let at-loop = at-loop-test .before in
+    let s = at-loop .before .before in
+    let a = s .args in ends-next (a .area .now) (a .base) (a .n) (at-loop .loop .i) (at-loop .loop .inv) (at-loop-test .loop-test .taken) (at-ends .ends .ensures .1 (c .if1 .left))
 
 returns-2 : tie.Need-returns-2 Inv-loop μ-loop
-returns-2 c = ends-not (c .before .before .args .area .now) (c .before .before .args .base) (c .before .before .args .n) (c .before .loop .i) (c .before .loop .inv) (c .loop-test .left)
+returns-2 c = let a = c .before .before .before .args in ends-not (a .area .now) (a .base) (a .n) (c .before .loop .i) (c .before .loop .inv) (c .loop-test .left)
 
 pub some-ends-spec : {M : Type 1} → statement M
 some-ends-spec =
@@ -53,10 +65,11 @@ some-ends-spec =
     Inv-loop
     μ-loop
     loop-holds
-    mul-if1
-    add-if1
-    mul-if1-2
-    shared-slice-read-if1
+    mul-ends
+    add-ends
+    mul-ends-2
+    shared-slice-read-ends
+    ends-requires
     returns
     add-i
     loop-less

@@ -1,8 +1,8 @@
 -- `deskheron::deskheron_check` meets its contract, by cases of check's answer.
-use mathlib.Core.Path.{ap, _∙_}
+use mathlib.Core.Path.{_≡_, sym, ap, _∙_}
+use Rattle.table.specs.Outcomes.{numberOf, cellAfter}
+use Rattle.table.specs.Reading.{checkedOutcome, checkOf}
 use borrow.Author.Needs.{needs}
-use Rattle.table.specs.Reading.{refusalOf}
-use Rattle.deskheron.specs.Answers.{countAfter}
 use Rattle.deskheron.proofs.deskheron_check.Statement.{statement}
 use Rattle.deskheron.proofs.deskheron_check.Tie as tie
 
@@ -22,23 +22,21 @@ cast-result : tie.Need-cast-result
 cast-result c = search needs
 
 returns : tie.Need-returns
-unfolding countAfter
+unfolding cellAfter checkedOutcome
 returns c =
-    let k = c .before .before .before in (
-      c .refusal .ensures ∙ ap refusalOf (k .check .ensures),
-      rw (← k .check .ensures, c .before .enum-told .given .1),
-    )
+    let k = c .before .before .before in
+    let e : checkOf (k .before .before .args .table .now) ≡ _ = sym (k .check .ensures) ∙ ap checkedOutcome (c .before .enum-told .given .1) in
+    (c .refusal .ensures ∙ ap numberOf (k .check .ensures), rw e)
 
 cast-nodes : tie.Need-cast-nodes
 cast-nodes c = search needs
 
 returns-2 : tie.Need-returns-2
-unfolding refusalOf countAfter
+unfolding numberOf cellAfter checkedOutcome
 returns-2 c =
-    let k = c .before .before .before in (
-      rw (← k .check .ensures, c .before .checked .given .1),
-      rw (← k .check .ensures, c .before .checked .given .1),
-    )
+    let k = c .before .before .before in
+    let e : checkOf (k .before .before .args .table .now) ≡ _ = sym (k .check .ensures) ∙ ap checkedOutcome (c .before .checked .given .1) in
+    (rw e, rw e)
 
 pub deskheron-check-spec : {M : Type 1} → statement M
 deskheron-check-spec =

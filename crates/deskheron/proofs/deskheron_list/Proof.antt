@@ -1,9 +1,6 @@
 -- `deskheron::deskheron_list` meets its contract, by cases of the answer of list.
-use mathlib.Core.Path.{refl, sym, ap, _∙_}
-use Rattle.list.specs.declared.Answer.{Answer}
-use Rattle.list.specs.Answers.{refusalOf}
-use Rattle.deskheron.specs.Answers.{listedAfter}
 use borrow.Author.Needs.{needs}
+use Rattle.deskheron.proofs.Entered.{refused-entered, listed-entered}
 use Rattle.deskheron.proofs.deskheron_list.Statement.{statement}
 use Rattle.deskheron.proofs.deskheron_list.Tie as tie
 
@@ -32,15 +29,9 @@ same-length-3 : tie.Need-same-length-3
 same-length-3 c = search needs
 
 returns : tie.Need-returns
-unfolding refusalOf listedAfter
 returns c =
-    let given = c .before .before .before .before .before .before .before .before .before .list-bytes .ensures in
-    let w = sym (c .before .enum-told .given .1) ∙ given .answer in
-    record {
-      number = c .refusal .ensures ∙ ap refusalOf (given .answer);
-      buffers = record { answer = refl; signals = given .signals; codes = given .codes; labels = given .labels };
-      counted = ap (λ (z : Answer). listedAfter z (c .before .before .before .before .before .before .before .before .before .before .before .before .before .before .before .before .before .args .count .now)) w;
-    }
+    let k = c .before .before .before .before .before .before in
+    refused-entered (k .before .before .before .list-bytes .ensures) (c .before .enum-told .given .1) (c .refusal .ensures)
 
 same-length-4 : tie.Need-same-length-4
 same-length-4 c = search needs
@@ -52,15 +43,9 @@ same-length-6 : tie.Need-same-length-6
 same-length-6 c = search needs
 
 returns-2 : tie.Need-returns-2
-unfolding refusalOf listedAfter
 returns-2 c =
-    let given = c .before .before .before .before .before .before .before .before .before .list-bytes .ensures in
-    let w = sym (c .before .answer .given .1) ∙ given .answer in
-    record {
-      number = ap refusalOf w;
-      buffers = record { answer = refl; signals = given .signals; codes = given .codes; labels = given .labels };
-      counted = ap (λ (z : Answer). listedAfter z (c .before .before .before .before .before .before .before .before .before .before .before .before .before .before .before .before .before .args .count .now)) w;
-    }
+    let k = c .before .before .before .before .before .before in
+    listed-entered (k .before .before .before .list-bytes .ensures) (c .before .answer .given .1)
 
 pub deskheron-list-spec : {M : Type 1} → statement M
 deskheron-list-spec =

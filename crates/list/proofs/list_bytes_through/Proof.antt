@@ -23,10 +23,21 @@ same-length c = search needs
 
 returns : tie.Need-returns
 unfolding listOf
-returns c = bytes-refused _ _ (passed-on (tableOf (c .before .before .before .before .before .before .before .before .before .before .before .args .table .now)) (c .before .before .before .before .before .before .before .before .before .before .before .args .assumed) (c .before .before .before .before .before .before .before .before .before .before .before .args .mark) (c .before .before .before .before .before .before .before .before .before .before .before .args .labels) (c .before .before .before .before .find .result) (c .before .before .before .before .before .before .before .before .before .before .before .args .area .now) _ (c .before .before .before .before .find .ensures) (length (c .before .before .before .before .before .before .before .before .before .before .before .args .o .now) / 4) (length (c .before .before .before .before .before .before .before .before .before .before .before .args .k .now)) (length (c .before .before .before .before .before .before .before .before .before .before .before .args .l .now) / 8) _ (c .enum-told .given .1)) _ _ _ _ (c .enum-told .given .1)
+returns c =
+    let at-find = c .before .before .before .before in
+    let past10 = at-find .before .before .before .before .before .before in
+    let s = past10 .before in
+    bytes-refused _ _ (passed-on (tableOf (s .args .table .now)) (s .args .assumed) (s .args .mark) (s .args .labels) (at-find .find .result) (s .args .area .now) _ (at-find .find .ensures)
+    (length (s .args .o .now) / 4) (length (s .args .k .now)) (length (s .args .l .now) / 8) _ (c .enum-told .given .1)) _ _ _ _ (c .enum-told .given .1)
 
 deliver-bytes-requires : tie.Need-deliver-bytes-requires
-deliver-bytes-requires c κs = count-fits (tableOf (c .before .before .before .before .before .before .before .before .before .before .before .before .before .before .before .before .args .table .now)) (c .before .before .before .before .before .before .before .before .before .before .before .before .before .before .before .before .args .assumed) (c .before .before .before .before .before .before .before .before .before .before .before .before .before .before .before .before .args .mark) (c .before .before .before .before .before .before .before .before .before .before .before .before .before .before .before .before .args .labels) (c .before .before .before .before .before .before .before .before .before .find .result) (c .before .before .before .before .before .before .before .before .before .before .before .before .before .before .before .before .args .area .now) _ (c .before .before .before .before .before .before .before .before .before .find .ensures) (c .before .before .before .before .before .answer .given .0 .0) (c .before .before .before .before .before .answer .given .1) (c .before .before .before .before .before .before .before .before .before .before .before .before .before .before .before .before .pre)
+deliver-bytes-requires c κs =
+    let at-answer = c .before .before .before .before .before in
+    let at-find = at-answer .before .before .before .before in
+    let past15 = at-find .before .before .before .before .before .before in
+    let s = past15 .before in
+    count-fits (tableOf (s .args .table .now)) (s .args .assumed) (s .args .mark) (s .args .labels) (at-find .find .result) (s .args .area .now) _ (at-find .find .ensures) (at-answer .answer .given .0 .0)
+    (at-answer .answer .given .1) (s .pre)
 
 same-length-2 : tie.Need-same-length-2
 same-length-2 c = search needs
@@ -42,7 +53,15 @@ same-length-5 c = search needs
 
 returns-2 : tie.Need-returns-2
 unfolding listOf
-returns-2 c = bytes-as (c .before .before .before .before .before .before .deliver-bytes .ensures) (ap (fitted (length (c .before .before .before .before .before .before .before .before .before .before .before .before .before .before .before .before .before .before .before .before .before .before .before .args .o .now) / 4) (length (c .before .before .before .before .before .before .before .before .before .before .before .before .before .before .before .before .before .before .before .before .before .before .before .args .k .now)) (length (c .before .before .before .before .before .before .before .before .before .before .before .before .before .before .before .before .before .before .before .before .before .before .before .args .l .now) / 8)) (count-found (tableOf (c .before .before .before .before .before .before .before .before .before .before .before .before .before .before .before .before .before .before .before .before .before .before .before .args .table .now)) (c .before .before .before .before .before .before .before .before .before .before .before .before .before .before .before .before .before .before .before .before .before .before .before .args .assumed) (c .before .before .before .before .before .before .before .before .before .before .before .before .before .before .before .before .before .before .before .before .before .before .before .args .mark) (c .before .before .before .before .before .before .before .before .before .before .before .before .before .before .before .before .before .before .before .before .before .before .before .args .labels) (c .before .before .before .before .before .before .before .before .before .before .before .before .before .before .before .before .find .result) (c .before .before .before .before .before .before .before .before .before .before .before .before .before .before .before .before .before .before .before .before .before .before .before .args .area .now) _ (c .before .before .before .before .before .before .before .before .before .before .before .before .before .before .before .before .find .ensures) (c .before .before .before .before .before .before .before .before .before .before .before .before .answer .given .0 .0) (c .before .before .before .before .before .before .before .before .before .before .before .before .answer .given .1)))
+returns-2 c =
+    let at-deliver-bytes = c .before .before .before .before .before .before in
+    let at-answer = at-deliver-bytes .before .before .before .before .before .before in
+    let at-find = at-answer .before .before .before .before in
+    let past22 = at-find .before .before .before .before .before .before in
+    let s = past22 .before in
+    bytes-as (at-deliver-bytes .deliver-bytes .ensures) (ap (fitted (length (s .args .o .now) / 4) (length (s .args .k .now)) (length (s .args .l .now) / 8))
+    (count-found (tableOf (s .args .table .now)) (s .args .assumed) (s .args .mark) (s .args .labels) (at-find .find .result) (s .args .area .now) _ (at-find .find .ensures) (at-answer .answer .given .0 .0)
+    (at-answer .answer .given .1)))
 
 pub list-bytes-through-spec : {M : Type 1} → statement M
 list-bytes-through-spec =

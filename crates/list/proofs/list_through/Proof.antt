@@ -22,10 +22,24 @@ same-length c = search needs
 
 returns : tie.Need-returns
 unfolding listOf
-returns c = delivered-refused _ _ (passed-on (tableOf (c .before .before .before .before .before .before .before .before .before .before .before .args .table .now)) (c .before .before .before .before .before .before .before .before .before .before .before .args .assumed) (c .before .before .before .before .before .before .before .before .before .before .before .args .mark) (c .before .before .before .before .before .before .before .before .before .before .before .args .labels) (c .before .before .before .before .find .result) (c .before .before .before .before .before .before .before .before .before .before .before .args .area .now) _ (c .before .before .before .before .find .ensures) (length (c .before .before .before .before .before .before .before .before .before .before .before .args .o .now)) (length (c .before .before .before .before .before .before .before .before .before .before .before .args .k .now)) (length (c .before .before .before .before .before .before .before .before .before .before .before .args .l .now)) _ (c .enum-told .given .1)) _ _ _ _ (c .enum-told .given .1)
+returns c =
+    let at-find = c .before .before .before .before in
+    let past10 = at-find .before .before .before .before .before .before in
+    let s = past10 .before in
+    delivered-refused _ _ (passed-on (tableOf (s .args .table .now)) (s .args .assumed) (s .args .mark) (s .args .labels) (at-find .find .result) (s .args .area .now) _ (at-find .find .ensures)
+    (length (s .args .o .now)) (length (s .args .k .now)) (length (s .args .l .now)) _ (c .enum-told .given .1)) _ _ _ _ (c .enum-told .given .1)
 
 deliver-requires : tie.Need-deliver-requires
-deliver-requires c κs = (count-fits (tableOf (c .before .before .before .before .before .before .before .before .before .before .before .before .before .before .before .before .args .table .now)) (c .before .before .before .before .before .before .before .before .before .before .before .before .before .before .before .before .args .assumed) (c .before .before .before .before .before .before .before .before .before .before .before .before .before .before .before .before .args .mark) (c .before .before .before .before .before .before .before .before .before .before .before .before .before .before .before .before .args .labels) (c .before .before .before .before .before .before .before .before .before .find .result) (c .before .before .before .before .before .before .before .before .before .before .before .before .before .before .before .before .args .area .now) _ (c .before .before .before .before .before .before .before .before .before .find .ensures) (c .before .before .before .before .before .answer .given .0 .0) (c .before .before .before .before .before .answer .given .1) (c .before .before .before .before .before .before .before .before .before .before .before .before .before .before .before .before .pre), count-small (tableOf (c .before .before .before .before .before .before .before .before .before .before .before .before .before .before .before .before .args .table .now)) (c .before .before .before .before .before .before .before .before .before .before .before .before .before .before .before .before .args .assumed) (c .before .before .before .before .before .before .before .before .before .before .before .before .before .before .before .before .args .mark) (c .before .before .before .before .before .before .before .before .before .before .before .before .before .before .before .before .args .labels) (c .before .before .before .before .before .before .before .before .before .find .result) (c .before .before .before .before .before .before .before .before .before .before .before .before .before .before .before .before .args .area .now) _ (c .before .before .before .before .before .before .before .before .before .find .ensures) (c .before .before .before .before .before .answer .given .0 .0) (c .before .before .before .before .before .answer .given .1) (search needs))
+deliver-requires c κs =
+    let at-answer = c .before .before .before .before .before in
+    let at-find = at-answer .before .before .before .before in
+    let past15 = at-find .before .before .before .before .before .before in
+    let s = past15 .before in (
+      count-fits (tableOf (s .args .table .now)) (s .args .assumed) (s .args .mark) (s .args .labels) (at-find .find .result) (s .args .area .now) _ (at-find .find .ensures) (at-answer .answer .given .0 .0)
+          (at-answer .answer .given .1) (s .pre),
+      count-small (tableOf (s .args .table .now)) (s .args .assumed) (s .args .mark) (s .args .labels) (at-find .find .result) (s .args .area .now) _ (at-find .find .ensures)
+          (at-answer .answer .given .0 .0) (at-answer .answer .given .1) (search needs),
+    )
 
 same-length-2 : tie.Need-same-length-2
 same-length-2 c = search needs
@@ -41,7 +55,15 @@ same-length-5 c = search needs
 
 returns-2 : tie.Need-returns-2
 unfolding listOf
-returns-2 c = delivered-as (c .before .before .before .before .before .before .deliver .ensures) (ap (fitted (length (c .before .before .before .before .before .before .before .before .before .before .before .before .before .before .before .before .before .before .before .before .before .before .before .args .o .now)) (length (c .before .before .before .before .before .before .before .before .before .before .before .before .before .before .before .before .before .before .before .before .before .before .before .args .k .now)) (length (c .before .before .before .before .before .before .before .before .before .before .before .before .before .before .before .before .before .before .before .before .before .before .before .args .l .now))) (count-found (tableOf (c .before .before .before .before .before .before .before .before .before .before .before .before .before .before .before .before .before .before .before .before .before .before .before .args .table .now)) (c .before .before .before .before .before .before .before .before .before .before .before .before .before .before .before .before .before .before .before .before .before .before .before .args .assumed) (c .before .before .before .before .before .before .before .before .before .before .before .before .before .before .before .before .before .before .before .before .before .before .before .args .mark) (c .before .before .before .before .before .before .before .before .before .before .before .before .before .before .before .before .before .before .before .before .before .before .before .args .labels) (c .before .before .before .before .before .before .before .before .before .before .before .before .before .before .before .before .find .result) (c .before .before .before .before .before .before .before .before .before .before .before .before .before .before .before .before .before .before .before .before .before .before .before .args .area .now) _ (c .before .before .before .before .before .before .before .before .before .before .before .before .before .before .before .before .find .ensures) (c .before .before .before .before .before .before .before .before .before .before .before .before .answer .given .0 .0) (c .before .before .before .before .before .before .before .before .before .before .before .before .answer .given .1)))
+returns-2 c =
+    let at-deliver = c .before .before .before .before .before .before in
+    let at-answer = at-deliver .before .before .before .before .before .before in
+    let at-find = at-answer .before .before .before .before in
+    let past22 = at-find .before .before .before .before .before .before in
+    let s = past22 .before in
+    delivered-as (at-deliver .deliver .ensures) (ap (fitted (length (s .args .o .now)) (length (s .args .k .now)) (length (s .args .l .now)))
+    (count-found (tableOf (s .args .table .now)) (s .args .assumed) (s .args .mark) (s .args .labels) (at-find .find .result) (s .args .area .now) _ (at-find .find .ensures) (at-answer .answer .given .0 .0)
+    (at-answer .answer .given .1)))
 
 pub list-through-spec : {M : Type 1} → statement M
 list-through-spec =

@@ -10,7 +10,7 @@ use Rattle.esterel.specs.Statement.{Statement, nothing, pause, gotopause, emit,
 use Rattle.esterel.specs.Codes.{codeOf}
 use Rattle.esterel.specs.Reactions.{State, start, resumed, Reaction}
 use Rattle.esterel.specs.Listing.{reaction, one, onlyIf, hide, follow, together, going, caught, someEnds}
-use Rattle.area.specs.Area.{collect}
+use Rattle.area.specs.inner.Area.{collect}
 
 abbrev pub Capped : Type 0
 Capped = Option (List Reaction)

@@ -7,10 +7,12 @@ use mathlib.Core.Option.{some}
 use Prim.Native.Nat.{ℕ, _+_, _*_, _≤_, _<_}
 use lib.ListN.{length}
 use Rattle.esterel.specs.Statement.{Statement, depth}
-use Rattle.esterel.specs.Reactions.{Reaction}
+use Rattle.esterel.specs.Reactions.{start, Reaction}
 use Rattle.esterel.specs.Listing.{Rising}
-use Rattle.area.specs.Area.{rows, Made, Merged}
-use Rattle.list.specs.inner.Capped.{Capped, followIn}
+use Rattle.area.specs.inner.Area.{rows, Made, Merged}
+use Rattle.area.specs.declared.Change.the-variants.{Going}
+use Rattle.area.specs.inner.Rules.{change}
+use Rattle.list.specs.inner.Capped.{Capped, changeIn, followIn, capped}
 
 -- so many words are enough to list a statement
 abbrev pub roomFor : Statement → ℕ
@@ -23,7 +25,7 @@ pub record Above (a : List ℕ) (base n top : ℕ) : Type 0 where
   pub large : 64 < n → length a ≤ top
 
 -- the n₁ reactions at base and the n₂ above them were made one list
-pub record Joined (g : List Reaction → List Reaction → List Reaction) (a b : List ℕ) (base n₁ n₂ r : ℕ) : Type 0 where
+pub record MadeOne (g : List Reaction → List Reaction → List Reaction) (a b : List ℕ) (base n₁ n₂ r : ℕ) : Type 0 where
   pub small : n₁ ≤ 64 → Merged g a b base n₁ n₂ r
   pub large : 64 < n₁ → (r ≡ n₁) × (b ≡ a)
 
@@ -35,3 +37,10 @@ Standing a base n = n ≤ 64 → (base + 2 * n ≤ length a) × Rising (rows a b
 pub record Followed (w : Capped) (a b : List ℕ) (base need n r : ℕ) : Type 0 where
   pub small : n ≤ 64 → Made a b base need (followIn (some (rows a base n)) w) r
   pub large : 64 < n → (r ≡ n) × (b ≡ a)
+
+-- that of a started statement, with room for it above 64 reactions; that of the body of a loop, which starts again
+abbrev pub FollowedBy : Statement → ℕ → List ℕ → List ℕ → ℕ → ℕ → ℕ → Type 0
+FollowedBy p E a b base n r = Followed (capped p start E) a b base (base + 128 + roomFor p) n r
+
+abbrev pub FollowedAgain : Statement → ℕ → List ℕ → List ℕ → ℕ → ℕ → ℕ → Type 0
+FollowedAgain p E a b base n r = Followed (changeIn (change Going) (capped p start E)) a b base (base + 128 + roomFor p) n r

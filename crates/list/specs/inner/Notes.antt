@@ -3,44 +3,45 @@
 use mathlib.Core.Path.{_≡_}
 use mathlib.Core.Bool.{cond}
 use mathlib.Core.List.{List}
-use Prim.Native.Nat.{ℕ, _+_, _*_, _≤_, _<_, min}
+use Prim.Native.Nat.{ℕ, _+_, _*_, _≤_, _<_, min, max}
 use lib.Dec.{ltb}
 use lib.ListN.{length, getD, set}
 use Rattle.esterel.specs.Statement.{Statement, pauses, size, depth}
 use Rattle.esterel.specs.Listing.{nesting}
-use Rattle.table.specs.Reading.{kindOfNode, operandOf}
-use Rattle.table.specs.inner.Places.{Placed, statementAt}
+use Rattle.sets.specs.Set.{_union_}
+use Rattle.table.specs.Reading.{kindOfNode, operandOf, deepest}
+use Rattle.table.specs.inner.Places.{Placed, statementAt, statementOf, Known, Loaded}
 
 -- where the statement at a place ends: past the nodes there is nothing
 unfoldable pub endIn : List ℕ → ℕ → ℕ
 endIn ends at = cond (ltb at (length ends)) (getD ends at 0) at
 
--- the statement at a place and the place after it, read down to the depth 60, which no table exceeds
+-- the statement at a place and the place after it, read down to the depth that no table exceeds
 abbrev pub placeAt : List ℕ → ℕ → Placed
-placeAt xs at = statementAt 60 xs at
+placeAt xs at = statementAt deepest xs at
 
 abbrev pub partAt : List ℕ → ℕ → Statement
 partAt xs at = placeAt xs at .statement
 
 -- the statement at a place is read whole, from the first n nodes: none of it is missing, or too deep
-pub record Whole (n : ℕ) (xs : List ℕ) (at : ℕ) : Type 0 where
-  pub shallow : depth (partAt xs at) ≤ 60
+pub record ReadWhole (n : ℕ) (xs : List ℕ) (at : ℕ) : Type 0 where
+  pub shallow : depth (partAt xs at) ≤ deepest
   pub full : at + size (partAt xs at) ≤ placeAt xs at .next
   pub within : placeAt xs at .next ≤ n
 
 -- from the place i on, the notes are right of each statement that is read whole
 unfoldable pub EndsFrom : ℕ → ℕ → List ℕ → List ℕ → Type 0
-EndsFrom i n xs ends = (at : ℕ) → i ≤ at → Whole n xs at → getD ends at 0 ≡ placeAt xs at .next
+EndsFrom i n xs ends = (at : ℕ) → i ≤ at → ReadWhole n xs at → getD ends at 0 ≡ placeAt xs at .next
 
 unfoldable pub PausesFrom : ℕ → ℕ → List ℕ → List ℕ → Type 0
-PausesFrom i n xs labels = (at : ℕ) → i ≤ at → Whole n xs at → getD labels at 0 ≡ pauses (partAt xs at)
+PausesFrom i n xs labels = (at : ℕ) → i ≤ at → ReadWhole n xs at → getD labels at 0 ≡ pauses (partAt xs at)
 
 -- the nesting, 13 standing for all above 12
 unfoldable pub NestsFrom : ℕ → ℕ → List ℕ → List ℕ → Type 0
-NestsFrom i n xs nests = (at : ℕ) → i ≤ at → Whole n xs at → getD nests at 0 ≡ min 13 (nesting (partAt xs at))
+NestsFrom i n xs nests = (at : ℕ) → i ≤ at → ReadWhole n xs at → getD nests at 0 ≡ min 13 (nesting (partAt xs at))
 
 -- the three notes of each place from i on
-pub record Noted (i n : ℕ) (xs ends nests labels : List ℕ) : Type 0 where
+pub record NotesFrom (i n : ℕ) (xs ends nests labels : List ℕ) : Type 0 where
   pub long-ends : n ≤ length ends
   pub long-nests : n ≤ length nests
   pub long-labels : n ≤ length labels
@@ -56,32 +57,56 @@ pub record Room (at : ℕ) (ends nests labels : List ℕ) : Type 0 where
   pub short : length ends ≤ 1024
 
 -- the notes of one place were written
-pub record Wrote (at end nest own : ℕ) (ends ends′ nests nests′ labels labels′ : List ℕ) : Type 0 where
+pub record NotesPut (at end nest own : ℕ) (ends ends′ nests nests′ labels labels′ : List ℕ) : Type 0 where
   pub wrote-end : ends′ ≡ set ends at end
   pub wrote-nest : nests′ ≡ set nests at nest
   pub wrote-own : labels′ ≡ set labels at own
 
--- signals that are emitted are below 32, as in every table
-abbrev pub Narrow : ℕ → List ℕ → Type 0
-Narrow n xs = (i : ℕ) → i < n → kindOfNode (getD xs i 0) ≡ 3 → operandOf (getD xs i 0) < 32
+-- the nesting with one signal statement more around, 13 standing for all above 12; a refused one is given on
+unfoldable pub nestedOnce : ℕ → ℕ
+nestedOnce nest = cond (ltb nest 13) (nest + 1) nest
 
--- n decoded nodes that hold a statement, as those of an accepted table do, whatever stands behind them
-pub record Sound (xs : List ℕ) (n : ℕ) : Type 0 where
-  pub few : n ≤ 1024
-  pub narrow : Narrow n xs
-  pub whole : Whole n xs 0
+-- written of a statement without children, with one, of a signal statement, of one with two children
+abbrev pub NotedNone : ℕ → ℕ → List ℕ → List ℕ → List ℕ → List ℕ → List ℕ → List ℕ → Type 0
+NotedNone at own ends ends′ nests nests′ labels labels′ = NotesPut at (at + 1) 0 own ends ends′ nests nests′ labels labels′
+
+abbrev pub NotedOne : (ℕ → ℕ) → ℕ → List ℕ → List ℕ → List ℕ → List ℕ → List ℕ → List ℕ → Type 0
+NotedOne g at ends ends′ nests nests′ labels labels′ =
+    NotesPut at (endIn ends (at + 1)) (g (getD nests (at + 1) 0)) (getD labels (at + 1) 0) ends ends′ nests nests′ labels labels′
+
+abbrev pub NotedBody : ℕ → List ℕ → List ℕ → List ℕ → List ℕ → List ℕ → List ℕ → Type 0
+NotedBody at ends ends′ nests nests′ labels labels′ = NotedOne (λ nest. nest) at ends ends′ nests nests′ labels labels′
+
+abbrev pub NotedSignal : ℕ → List ℕ → List ℕ → List ℕ → List ℕ → List ℕ → List ℕ → Type 0
+NotedSignal at ends ends′ nests nests′ labels labels′ = NotedOne nestedOnce at ends ends′ nests nests′ labels labels′
+
+abbrev pub NotedTwo : ℕ → List ℕ → List ℕ → List ℕ → List ℕ → List ℕ → List ℕ → Type 0
+NotedTwo at ends ends′ nests nests′ labels labels′ =
+    let second = endIn ends (at + 1) in
+    NotesPut at (endIn ends second) (max (getD nests (at + 1) 0) (getD nests second 0)) (getD labels (at + 1) 0 union getD labels second 0)
+    ends ends′ nests nests′ labels labels′
+
+-- signals that are emitted are below 32, as in every table
+abbrev pub SmallSignals : ℕ → List ℕ → Type 0
+SmallSignals n xs = (i : ℕ) → i < n → kindOfNode (getD xs i 0) ≡ 3 → operandOf (getD xs i 0) < 32
+
+-- the buffer holds the nodes of an accepted statement, so many
+pub record Counted (xs : List ℕ) (n : ℕ) : Type 0 where
+  pub loaded : Loaded xs
+  pub count : size (statementOf xs) ≡ n
 
 -- the statement at a place can be listed at the start
-pub record Ready (xs ends : List ℕ) (at : ℕ) : Type 0 where
+pub record Startable (xs ends : List ℕ) (at : ℕ) : Type 0 where
   pub count : ℕ
   pub few : count ≤ 1024
   pub right : EndsFrom 0 count xs ends
-  pub narrow : Narrow count xs
-  pub whole : Whole count xs at
+  pub narrow : SmallSignals count xs
+  pub known : Known xs
+  pub whole : ReadWhole count xs at
 
 -- and in a resumed state
 pub record Resumable (xs ends labels : List ℕ) (at : ℕ) : Type 0 where
-  pub ready : Ready xs ends at
+  pub ready : Startable xs ends at
   pub right-labels : PausesFrom 0 (ready .count) xs labels
 
 -- the n reactions of a large area stand in a small one; nothing is written where n says that there is no list

@@ -1,15 +1,13 @@
 -- `reach::rounds_with` meets its contract. The invariant: R is that of the rounds made, each of which added a label, with the
 -- labels of s and of d over R. The measure is the number of labels that can still be added.
-use mathlib.Core.Path.{ap, _∙_}
+use mathlib.Core.Path.{_∙_}
 use Prim.Native.Nat.{_-_}
 use native.Mathlib.Omega.{arith}
 use borrow.Author.Needs.{needs}
 use Rattle.sets.specs.Set.{_union_}
 use Rattle.sets.proofs.Counts.{count}
-use Rattle.esterel.specs.Codes.{Codes, labels}
 use Rattle.table.specs.Reading.{deepest}
 use Rattle.table.specs.inner.Places.{statementAt, statementOf}
-use Rattle.reach.specs.inner.CodeSets.{codesOf}
 use Rattle.reach.proofs.Rounds.{Going, few-rounds, none-yet, goes-on, falls, rests, not-refused}
 use Rattle.reach.proofs.rounds_with.Statement.{statement}
 use Rattle.reach.proofs.rounds_with.Tie as tie
@@ -33,11 +31,10 @@ returns c =
     absurd (not-refused (b .args .nodes .now) (m .summary-at .result) (b .args .kept .now) _ (b .pre .0 .loaded) (m .summary-at .ensures .0) (c .if1 .taken))
 
 loop-holds : tie.Need-loop-holds Inv-loop μ-loop
-unfolding labels codesOf
 loop-holds c =
     let m = c .before .before .before in
     let b = m .before .before .before .before in
-    none-yet (statementOf (b .args .nodes .now)) _ (ap (λ (K : Codes). K .pausing) (m .summary-at .ensures .0 .start))
+    none-yet (statementOf (b .args .nodes .now)) (m .summary-at .result) (m .summary-at .ensures .0 .start)
 
 add-rounds : tie.Need-add-rounds Inv-loop μ-loop
 add-rounds c =

@@ -70,15 +70,15 @@ pub record NotedChild (first : Summary) (at : ℕ) (r : Summary) (notes endings 
   pub ending : endings′ ≡ set endings at (first .ending)
 
 -- no place before `at` was written
-pub record From (at : ℕ) (xs ys : List ℕ) : Type 0 where
+pub record WritesFrom (at : ℕ) (xs ys : List ℕ) : Type 0 where
   pub size : length ys ≡ length xs
   pub low : (i : ℕ) → i < at → getD ys i 0 ≡ getD xs i 0
 
 -- a pass over the statement at a place leaves its notes, with what stood there before and after it
 pub record LeavesNotes (left : ℕ) (nodes : List ℕ) (at : ℕ) (notes endings notes′ endings′ : List ℕ) : Type 0 where
   pub noted : Noted (Opens notes′ endings′) nodes left at
-  pub notes-from : From at notes notes′
-  pub endings-from : From at endings endings′
+  pub notes-from : WritesFrom at notes notes′
+  pub endings-from : WritesFrom at endings endings′
 
 -- ---- For R
 -- of a node's first child: the place after it, and whether it can end, resumed and started

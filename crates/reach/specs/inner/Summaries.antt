@@ -17,9 +17,9 @@ use Rattle.reach.specs.inner.CodeSets.{codesOf, followedBy}
 unfoldable pub resumedFrom : List ℕ → ℕ → Codes
 resumedFrom kept l = codesOf (record { labels = getD kept l 0; codes = getD kept (64 + l) 0 })
 
--- after the codes of a label were stored
-abbrev pub stored : List ℕ → ℕ → CodeSet → List ℕ
-stored kept l a = set (set kept l (a .labels)) (64 + l) (a .codes)
+-- after codes were stored for a label
+abbrev pub storedFor : List ℕ → ℕ → CodeSet → List ℕ
+storedFor kept l a = set (set kept l (a .labels)) (64 + l) (a .codes)
 
 -- what is kept for the labels of a set was changed by F, and nothing else
 pub record Changed (set : ℕ) (F : Codes → Codes) (kept kept′ : List ℕ) : Type 0 where

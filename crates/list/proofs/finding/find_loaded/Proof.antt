@@ -1,5 +1,5 @@
 -- By the answer of check; on an accepted table the nodes in front hold its statement.
-use Rattle.list.proofs.Limits.{finds-refused, loaded-sound, finds-accepted}
+use Rattle.list.proofs.Limits.{finds-refused, loaded-counted, finds-accepted}
 use borrow.Author.Needs.{needs}
 use Rattle.list.proofs.finding.find_loaded.Statement.{statement}
 use Rattle.list.proofs.finding.find_loaded.Tie as tie
@@ -18,24 +18,33 @@ refusal-requires c κs = search needs
 
 returns : tie.Need-returns
 returns c =
-    let s = c .before .before .before .before .before .before .before in
-    finds-refused (s .args .table .now) (s .args .nodes .now) _ (c .before .before .before .load .result) (c .before .before .before .load .ensures) (s .args .assumed) (s .args .mark) (s .args .labels) _ _ (s .args .area .now) (c .before .enum-told .given .1) (c .refusal .ensures)
+    let at-enum-told = c .before in
+    let at-load = at-enum-told .before .before in
+    let s = at-load .before .before .before .before in
+    finds-refused (s .args .table .now) (s .args .nodes .now) _ (at-load .load .result) (at-load .load .ensures) (s .args .assumed) (s .args .mark) (s .args .labels) _ _ (s .args .area .now)
+    (at-enum-told .enum-told .given .1) (c .refusal .ensures)
 
 cast-find-nodes : tie.Need-cast-find-nodes
 cast-find-nodes c = search needs
 
 find-nodes-requires : tie.Need-find-nodes-requires
 find-nodes-requires c κs =
-    let s = c .before .before .before .before .before .before .before .before .before in
-    (loaded-sound (s .args .table .now) (s .args .nodes .now) _ (c .before .before .before .before .before .load .result) (c .before .before .before .before .before .load .ensures) (c .before .before .before .checked .given .0 .0) (c .before .before .before .checked .given .1), s .pre)
+    let at-checked = c .before .before .before in
+    let at-load = at-checked .before .before in
+    let s = at-load .before .before .before .before in
+    (loaded-counted (s .args .table .now) (s .args .nodes .now) _ (at-load .load .result) (at-load .load .ensures) (at-checked .checked .given .0 .0) (at-checked .checked .given .1) (s .pre .1) (s .pre .2), s .pre .0)
 
 same-length : tie.Need-same-length
 same-length c = search needs
 
 returns-2 : tie.Need-returns-2
 returns-2 c =
-    let s = c .before .before .before .before .before .before .before .before .before .before .before .before in
-    finds-accepted (s .args .table .now) (s .args .nodes .now) _ (c .before .before .before .before .before .before .before .before .load .result) (c .before .before .before .before .before .before .before .before .load .ensures) (c .before .before .before .before .before .before .checked .given .0 .0) (c .before .before .before .before .before .before .checked .given .1) (s .args .assumed) (s .args .mark) (s .args .labels) (c .before .before .find-nodes .ensures)
+    let at-find-nodes = c .before .before in
+    let at-checked = at-find-nodes .before .before .before .before in
+    let at-load = at-checked .before .before in
+    let s = at-load .before .before .before .before in
+    finds-accepted (s .args .table .now) (s .args .nodes .now) _ (at-load .load .result) (at-load .load .ensures) (at-checked .checked .given .0 .0) (at-checked .checked .given .1) (s .args .assumed) (s .args .mark)
+    (s .args .labels) (at-find-nodes .find-nodes .ensures)
 
 pub find-loaded-spec : {M : Type 1} → statement M
 find-loaded-spec =

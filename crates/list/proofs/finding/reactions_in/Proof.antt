@@ -20,7 +20,10 @@ same-length-2 : tie.Need-same-length-2
 same-length-2 c = search needs
 
 returns-2 : tie.Need-returns-2
-returns-2 c = made-again (c .before .before .before .before .before .before .before .reactions .ensures) (c .before .before .reactions-large .ensures)
+returns-2 c =
+    let at-reactions-large = c .before .before in
+    let at-reactions = at-reactions-large .before .before .before .before .before in
+    made-again (at-reactions .reactions .ensures) (at-reactions-large .reactions-large .ensures)
 
 pub reactions-in-spec : {M : Type 1} → statement M
 reactions-in-spec =

@@ -18,8 +18,10 @@ same-length-2 c = search needs
 
 returns : tie.Need-returns
 returns c =
-    let s = c .before .before .before .before .before .before .before .before .before .before .before in
-    made-copied (c .before .before .before .before .before .before .before .reactions .ensures) (s .pre .1) (s .pre .0) (c .before .before .copy .ensures)
+    let at-copy = c .before .before in
+    let at-reactions = at-copy .before .before .before .before .before in
+    let s = at-reactions .before .before .before .before in
+    made-copied (at-reactions .reactions .ensures) (s .pre .1) (s .pre .0) (at-copy .copy .ensures)
 
 pub reactions-through-spec : {M : Type 1} → statement M
 reactions-through-spec =

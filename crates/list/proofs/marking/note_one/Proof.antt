@@ -17,7 +17,11 @@ pauses-at-requires : tie.Need-pauses-at-requires
 pauses-at-requires c κs = omega arith
 
 note-requires : tie.Need-note-requires
-note-requires c κs = let p = c .before .before .before .before .before .before .before .before .before .before .before .before .pre in (p, c .before .before .before .before .before .before .before .end-at .ensures .1 (omega arith))
+note-requires c κs =
+    let past6 = c .before .before .before .before .before .before in
+    let at-end-at = past6 .before in
+    let s = at-end-at .before .before .before .before .before in
+    let p = s .pre in (p, at-end-at .end-at .ensures .1 (omega arith))
 
 same-length : tie.Need-same-length
 same-length c = omega arith
@@ -29,7 +33,12 @@ same-length-3 : tie.Need-same-length-3
 same-length-3 c = omega arith
 
 returns : tie.Need-returns
-returns c = wrote-as (c .before .before .before .before .before .before .note .ensures) (c .before .before .before .before .before .before .before .before .before .before .before .before .before .before .end-at .ensures .0) (c .before .before .before .before .before .before .before .before .before .before .before .before .nest-at .ensures) (c .before .before .before .before .before .before .before .before .before .before .pauses-at .ensures)
+returns c =
+    let at-note = c .before .before .before .before .before .before in
+    let at-pauses-at = at-note .before .before .before .before in
+    let at-nest-at = at-pauses-at .before .before in
+    let at-end-at = at-nest-at .before .before in
+    wrote-as (at-note .note .ensures) (at-end-at .end-at .ensures .0) (at-nest-at .nest-at .ensures) (at-pauses-at .pauses-at .ensures)
 
 pub note-one-spec : {M : Type 1} → statement M
 note-one-spec =

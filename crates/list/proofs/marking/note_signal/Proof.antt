@@ -1,6 +1,6 @@
 -- What was found of the child is written, with one signal more.
-use Prim.Native.Nat.{ℕ, _+_, min}
 use mathlib.Core.Path.{ap, _∙_}
+use Rattle.list.specs.inner.Notes.{nestedOnce}
 use Rattle.list.proofs.Marks.{wrote-as}
 use native.Mathlib.Omega.{arith}
 use Rattle.list.proofs.marking.note_signal.Statement.{statement}
@@ -15,14 +15,18 @@ end-at-requires c κs = omega arith
 nest-at-requires : tie.Need-nest-at-requires
 nest-at-requires c κs = omega arith
 
-deeper-requires : tie.Need-deeper-requires
-deeper-requires c κs = omega arith
+nested-once-requires : tie.Need-nested-once-requires
+nested-once-requires c κs = omega arith
 
 pauses-at-requires : tie.Need-pauses-at-requires
 pauses-at-requires c κs = omega arith
 
 note-requires : tie.Need-note-requires
-note-requires c κs = let p = c .before .before .before .before .before .before .before .before .before .before .before .before .before .pre in (p, c .before .before .before .before .before .before .before .before .end-at .ensures .1 (omega arith))
+note-requires c κs =
+    let past6 = c .before .before .before .before .before .before in
+    let at-end-at = past6 .before .before in
+    let s = at-end-at .before .before .before .before .before in
+    let p = s .pre in (p, at-end-at .end-at .ensures .1 (omega arith))
 
 same-length : tie.Need-same-length
 same-length c = omega arith
@@ -34,7 +38,13 @@ same-length-3 : tie.Need-same-length-3
 same-length-3 c = omega arith
 
 returns : tie.Need-returns
-returns c = wrote-as (c .before .before .before .before .before .before .note .ensures) (c .before .before .before .before .before .before .before .before .before .before .before .before .before .before .before .end-at .ensures .0) (c .before .before .before .before .before .before .before .before .before .before .before .before .deeper .ensures ∙ ap (λ (z : ℕ). min 13 (z + 1)) (c .before .before .before .before .before .before .before .before .before .before .before .before .before .nest-at .ensures)) (c .before .before .before .before .before .before .before .before .before .before .pauses-at .ensures)
+returns c =
+    let at-note = c .before .before .before .before .before .before in
+    let at-pauses-at = at-note .before .before .before .before in
+    let at-nested-once = at-pauses-at .before .before in
+    let at-nest-at = at-nested-once .before in
+    let at-end-at = at-nest-at .before .before in
+    wrote-as (at-note .note .ensures) (at-end-at .end-at .ensures .0) (at-nested-once .nested-once .ensures ∙ ap nestedOnce (at-nest-at .nest-at .ensures)) (at-pauses-at .pauses-at .ensures)
 
 pub note-signal-spec : {M : Type 1} → statement M
 note-signal-spec =
@@ -43,7 +53,7 @@ note-signal-spec =
     add-first
     end-at-requires
     nest-at-requires
-    deeper-requires
+    nested-once-requires
     pauses-at-requires
     note-requires
     same-length

@@ -21,11 +21,20 @@ end-at-requires-2 c κs = omega arith
 nest-at-requires : tie.Need-nest-at-requires
 nest-at-requires c κs = omega arith
 
+cast-larger : tie.Need-cast-larger
+cast-larger c = omega arith
+
 nest-at-requires-2 : tie.Need-nest-at-requires-2
 nest-at-requires-2 c κs = omega arith
 
+cast-larger-2 : tie.Need-cast-larger-2
+cast-larger-2 c = omega arith
+
 larger-requires : tie.Need-larger-requires
 larger-requires c κs = omega arith
+
+cast-nest : tie.Need-cast-nest
+cast-nest c = let e = c .larger .ensures in omega arith
 
 pauses-at-requires : tie.Need-pauses-at-requires
 pauses-at-requires c κs = omega arith
@@ -34,7 +43,12 @@ pauses-at-requires-2 : tie.Need-pauses-at-requires-2
 pauses-at-requires-2 c κs = omega arith
 
 note-requires : tie.Need-note-requires
-note-requires c κs = let p = c .before .before .before .before .before .before .before .before .before .before .before .before .before .before .before .before .before .before .before .pre in (p, c .before .before .before .before .before .before .before .before .before .before .before .before .end-at2 .ensures .1 (c .before .before .before .before .before .before .before .before .before .before .before .before .before .before .end-at .ensures .1 (omega arith)))
+note-requires c κs =
+    let past6 = c .before .before .before .before .before .before in
+    let at-end-at2 = past6 .before .before .before .before .before .before in
+    let at-end-at = at-end-at2 .before .before in
+    let s = at-end-at .before .before .before .before .before in
+    let p = s .pre in (p, at-end-at2 .end-at2 .ensures .1 (at-end-at .end-at .ensures .1 (omega arith)))
 
 same-length : tie.Need-same-length
 same-length c = omega arith
@@ -47,11 +61,20 @@ same-length-3 c = omega arith
 
 returns : tie.Need-returns
 unfolding _union_
-returns c = let s = c .before .before .before .before .before .before .before .before .before .before .before .before .before .before .before .before .before .before .before .before .before .before .before .before .before .before in
-    wrote-as (c .before .before .before .before .before .before .note .ensures)
-    (c .before .before .before .before .before .before .before .before .before .before .before .before .before .before .before .before .before .before .before .end-at2 .ensures .0 ∙ ap (endIn (s .args .ends .now)) (c .before .before .before .before .before .before .before .before .before .before .before .before .before .before .before .before .before .before .before .before .before .end-at .ensures .0))
-    (c .before .before .before .before .before .before .before .before .before .before .before .before .before .before .larger .ensures ∙ ap₂ max (c .before .before .before .before .before .before .before .before .before .before .before .before .before .before .before .before .before .nest-at .ensures) (c .before .before .before .before .before .before .before .before .before .before .before .before .before .before .before .nest-at2 .ensures ∙ ap (λ (z : ℕ). getD (s .args .nests .now) z 0) (c .before .before .before .before .before .before .before .before .before .before .before .before .before .before .before .before .before .before .before .before .before .end-at .ensures .0)))
-    (ap₂ _union_ (c .before .before .before .before .before .before .before .before .before .before .before .before .pauses-at .ensures) (c .before .before .before .before .before .before .before .before .before .before .pauses-at2 .ensures ∙ ap (λ (z : ℕ). getD (s .args .pauses .now) z 0) (c .before .before .before .before .before .before .before .before .before .before .before .before .before .before .before .before .before .before .before .before .before .end-at .ensures .0)))
+returns c =
+    let at-note = c .before .before .before .before .before .before in
+    let at-pauses-at2 = at-note .before .before .before .before in
+    let at-pauses-at = at-pauses-at2 .before .before in
+    let at-larger = at-pauses-at .before .before in
+    let at-nest-at2 = at-larger .before in
+    let at-nest-at = at-nest-at2 .before .before in
+    let at-end-at2 = at-nest-at .before .before in
+    let at-end-at = at-end-at2 .before .before in
+    let s = at-end-at .before .before .before .before .before in
+    wrote-as (at-note .note .ensures)
+    (at-end-at2 .end-at2 .ensures .0 ∙ ap (endIn (s .args .ends .now)) (at-end-at .end-at .ensures .0))
+    (at-larger .larger .ensures ∙ ap₂ max (at-nest-at .nest-at .ensures) (at-nest-at2 .nest-at2 .ensures ∙ ap (λ (z : ℕ). getD (s .args .nests .now) z 0) (at-end-at .end-at .ensures .0)))
+    (ap₂ _union_ (at-pauses-at .pauses-at .ensures) (at-pauses-at2 .pauses-at2 .ensures ∙ ap (λ (z : ℕ). getD (s .args .pauses .now) z 0) (at-end-at .end-at .ensures .0)))
 
 pub note-two-spec : {M : Type 1} → statement M
 note-two-spec =
@@ -61,8 +84,11 @@ note-two-spec =
     end-at-requires
     end-at-requires-2
     nest-at-requires
+    cast-larger
     nest-at-requires-2
+    cast-larger-2
     larger-requires
+    cast-nest
     pauses-at-requires
     pauses-at-requires-2
     note-requires

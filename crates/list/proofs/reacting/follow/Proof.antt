@@ -36,18 +36,30 @@ start-requires c κs =
 
 product-requires : tie.Need-product-requires
 product-requires c κs =
-    let s = c .before .before .before .before .before .before .before .before .before in
-    let h = ending-small (c .before .before .before .before .before .before .some-ends .ensures .1) (not-false _ (c .before .before .before .before .before .if1 .left)) in
-    beside (standing-made (s .pre .0) h) h (made-need (s .args .base + 128 + roomFor (partAt (s .args .nodes .now) (s .args .at))) (c .before .before .before .start .ensures) (omega (arith, h)))
+    let at-start = c .before .before .before in
+    let at-if1 = at-start .before .before in
+    let at-some-ends = at-if1 .before in
+    let s = at-some-ends .before .before .before in
+    let h = ending-small (at-some-ends .some-ends .ensures .1) (not-false _ (at-if1 .if1 .left)) in
+    beside (standing-made (s .pre .0) h) h (made-need (s .args .base + 128 + roomFor (partAt (s .args .nodes .now) (s .args .at))) (at-start .start .ensures) (omega (arith, h)))
 
 same-length-2 : tie.Need-same-length-2
 same-length-2 c = search needs
 
 returns-2 : tie.Need-returns-2
 returns-2 c =
-    let s = c .before .before .before .before .before .before .before .before .before .before .before .before in
-    let h = ending-small (c .before .before .before .before .before .before .before .before .before .some-ends .ensures .1) (not-false _ (c .before .before .before .before .before .before .before .before .if1 .left)) in
-    record { small = λ k. followed-by (standing-made (s .pre .0) h) _ (c .before .before .before .before .before .before .before .before .before .some-ends .ensures) (not-false _ (c .before .before .before .before .before .before .before .before .if1 .left)) (made-need (s .args .base + 128 + roomFor (partAt (s .args .nodes .now) (s .args .at))) (c .before .before .before .before .before .before .start .ensures) (omega (arith, h))) (omega arith) (c .before .before .product .ensures); large = λ k. absurd (omega (arith, h)) }
+    let at-product = c .before .before in
+    let at-start = at-product .before .before .before .before in
+    let at-if1 = at-start .before .before in
+    let at-some-ends = at-if1 .before in
+    let s = at-some-ends .before .before .before in
+    let h = ending-small (at-some-ends .some-ends .ensures .1) (not-false _ (at-if1 .if1 .left)) in
+    record {
+      small = λ k. followed-by (standing-made (s .pre .0) h) _ (at-some-ends .some-ends .ensures) (not-false _ (at-if1 .if1 .left))
+          (made-need (s .args .base + 128 + roomFor (partAt (s .args .nodes .now) (s .args .at))) (at-start .start .ensures) (omega (arith, h))) (omega arith) (at-product .product .ensures);
+      large = λ k. absurd
+          (omega (arith, h));
+    }
 
 pub follow-spec : {M : Type 1} → statement M
 follow-spec =

@@ -40,18 +40,32 @@ alter-requires c κs = λ h. omega (arith, c .before .before .before .start .ens
 
 product-requires : tie.Need-product-requires
 product-requires c κs =
-    let s = c .before .before .before .before .before .before .before .before .before .before .before .before .before in
-    let h = ending-small (c .before .before .before .before .before .before .before .before .before .before .some-ends .ensures .1) (not-false _ (c .before .before .before .before .before .before .before .before .before .if1 .left)) in
-    beside (standing-made (s .pre .0) h) h (altered Going (made-need (s .args .base + 128 + roomFor (partAt (s .args .nodes .now) (s .args .at))) (c .before .before .before .before .before .before .before .start .ensures) (omega (arith, h))) (c .before .before .before .alter .ensures))
+    let at-alter = c .before .before .before in
+    let at-start = at-alter .before .before .before .before in
+    let at-if1 = at-start .before .before in
+    let at-some-ends = at-if1 .before in
+    let s = at-some-ends .before .before .before in
+    let h = ending-small (at-some-ends .some-ends .ensures .1) (not-false _ (at-if1 .if1 .left)) in
+    beside (standing-made (s .pre .0) h) h (altered Going (made-need (s .args .base + 128 + roomFor (partAt (s .args .nodes .now) (s .args .at))) (at-start .start .ensures) (omega (arith, h))) (at-alter .alter .ensures))
 
 same-length-2 : tie.Need-same-length-2
 same-length-2 c = search needs
 
 returns-2 : tie.Need-returns-2
 returns-2 c =
-    let s = c .before .before .before .before .before .before .before .before .before .before .before .before .before .before .before .before in
-    let h = ending-small (c .before .before .before .before .before .before .before .before .before .before .before .before .before .some-ends .ensures .1) (not-false _ (c .before .before .before .before .before .before .before .before .before .before .before .before .if1 .left)) in
-    record { small = λ k. followed-by (standing-made (s .pre .0) h) _ (c .before .before .before .before .before .before .before .before .before .before .before .before .before .some-ends .ensures) (not-false _ (c .before .before .before .before .before .before .before .before .before .before .before .before .if1 .left)) (altered Going (made-need (s .args .base + 128 + roomFor (partAt (s .args .nodes .now) (s .args .at))) (c .before .before .before .before .before .before .before .before .before .before .start .ensures) (omega (arith, h))) (c .before .before .before .before .before .before .alter .ensures)) (omega arith) (c .before .before .product .ensures); large = λ k. absurd (omega (arith, h)) }
+    let at-product = c .before .before in
+    let at-alter = at-product .before .before .before .before in
+    let at-start = at-alter .before .before .before .before in
+    let at-if1 = at-start .before .before in
+    let at-some-ends = at-if1 .before in
+    let s = at-some-ends .before .before .before in
+    let h = ending-small (at-some-ends .some-ends .ensures .1) (not-false _ (at-if1 .if1 .left)) in
+    record {
+      small = λ k. followed-by (standing-made (s .pre .0) h) _ (at-some-ends .some-ends .ensures) (not-false _ (at-if1 .if1 .left))
+          (altered Going (made-need (s .args .base + 128 + roomFor (partAt (s .args .nodes .now) (s .args .at))) (at-start .start .ensures) (omega (arith, h))) (at-alter .alter .ensures)) (omega arith)
+          (at-product .product .ensures);
+      large = λ k. absurd (omega (arith, h));
+    }
 
 pub follow-again-spec : {M : Type 1} → statement M
 follow-again-spec =

@@ -1,21 +1,21 @@
 -- The invariant: i values are written.
 use Prim.Native.Nat.{_-_, _≤_}
 use mathlib.Core.List.{map}
-use Rattle.area.specs.Area.{rows}
-use Rattle.list.specs.Buffers.{reachedOf}
+use Rattle.area.specs.inner.Area.{rows}
+use Rattle.list.specs.Buffers.{reachedIn}
 use Rattle.list.proofs.Fills.{Filled, filled-none, filled-step, filled-all, fields-length, labels-at}
 use native.Mathlib.Omega.{arith}
 use Rattle.list.proofs.writing.fill_labels.Statement.{statement}
 use Rattle.list.proofs.writing.fill_labels.Tie as tie
 
 abbrev Inv-loop : tie.InvT-loop
-Inv-loop area n l₀ i₀ l i = (i ≤ n) × Filled (map reachedOf (rows area 0 n)) l₀ l i
+Inv-loop area n l₀ i₀ l i = (i ≤ n) × Filled (map reachedIn (rows area 0 n)) l₀ l i
 
 abbrev μ-loop : tie.MeasureT-loop
 μ-loop area n l₀ i₀ l i = n - i
 
 loop-holds : tie.Need-loop-holds Inv-loop μ-loop
-loop-holds c = (omega arith, filled-none (map reachedOf (rows (c .args .area .now) 0 (c .args .n))) (c .args .l .now))
+loop-holds c = (omega arith, filled-none (map reachedIn (rows (c .args .area .now) 0 (c .args .n))) (c .args .l .now))
 
 mul-l : tie.Need-mul-l Inv-loop μ-loop
 mul-l c = omega arith
@@ -42,14 +42,25 @@ loop-less : tie.Need-loop-less Inv-loop μ-loop
 loop-less c = omega arith
 
 loop-again : tie.Need-loop-again Inv-loop μ-loop
-loop-again c = (omega arith, filled-step (map reachedOf (rows (c .before .before .before .args .area .now) 0 (c .before .before .before .args .n))) (c .before .before .before .args .l .now) (c .before .before .loop .l) (c .before .before .loop .i) _ (c .before .before .loop .inv .1) (omega (arith, c .before .before .before .pre .1)) (labels-at (c .before .before .before .args .area .now) (c .before .before .before .args .n) (c .before .before .loop .i) (c .before .loop-test .taken)))
+loop-again c =
+    let at-loop-test = c .before in
+    let at-loop = at-loop-test .before in
+    let s = at-loop .before in (
+      omega arith,
+      filled-step (map reachedIn (rows (s .args .area .now) 0 (s .args .n))) (s .args .l .now) (at-loop .loop .l) (at-loop .loop .i) _ (at-loop .loop .inv .1) (omega (arith, s .pre .1))
+          (labels-at (s .args .area .now) (s .args .n) (at-loop .loop .i) (at-loop-test .loop-test .taken)),
+    )
 
 same-length : tie.Need-same-length Inv-loop μ-loop
 same-length c = c .before .loop .inv .1 .same
 
 returns : tie.Need-returns Inv-loop μ-loop
-returns c = let l = fields-length reachedOf (c .before .before .args .area .now) 0 (c .before .before .args .n) in
-    filled-all (map reachedOf (rows (c .before .before .args .area .now) 0 (c .before .before .args .n))) (c .before .before .args .l .now) (c .before .loop .l) (c .before .loop .i) (c .before .loop .inv .1) (omega (arith, c .before .loop .inv .0, c .loop-test .left)) (omega (arith, c .before .before .pre .1))
+returns c =
+    let at-loop = c .before in
+    let s = at-loop .before in
+    let l = fields-length reachedIn (s .args .area .now) 0 (s .args .n) in
+    filled-all (map reachedIn (rows (s .args .area .now) 0 (s .args .n))) (s .args .l .now) (at-loop .loop .l) (at-loop .loop .i) (at-loop .loop .inv .1) (omega (arith, at-loop .loop .inv .0, c .loop-test .left))
+    (omega (arith, s .pre .1))
 
 pub fill-labels-spec : {M : Type 1} → statement M
 fill-labels-spec =

@@ -1,39 +1,43 @@
 -- The invariant: i values are written.
+use mathlib.Core.Path.{_∙_}
 use Prim.Native.Nat.{_-_, _≤_}
 use mathlib.Core.List.{map}
-use Rattle.area.specs.Area.{rows}
-use Rattle.list.specs.Buffers.{emittedOf}
+use Rattle.area.specs.inner.Area.{rows}
+use Rattle.list.specs.Buffers.{emittedIn}
 use Rattle.list.proofs.Fills.{Filled, filled-none, filled-step, filled-all, fields-length, signals-at}
 use native.Mathlib.Omega.{arith}
 use Rattle.list.proofs.writing.fill_signals.Statement.{statement}
 use Rattle.list.proofs.writing.fill_signals.Tie as tie
 
 abbrev Inv-loop : tie.InvT-loop
-Inv-loop area n o₀ i₀ o i = (i ≤ n) × Filled (map emittedOf (rows area 0 n)) o₀ o i
+Inv-loop area n o₀ i₀ o i = (i ≤ n) × Filled (map emittedIn (rows area 0 n)) o₀ o i
 
 abbrev μ-loop : tie.MeasureT-loop
 μ-loop area n o₀ i₀ o i = n - i
 
 loop-holds : tie.Need-loop-holds Inv-loop μ-loop
-loop-holds c = (omega arith, filled-none (map emittedOf (rows (c .args .area .now) 0 (c .args .n))) (c .args .o .now))
+loop-holds c = (omega arith, filled-none (map emittedIn (rows (c .before .before .args .area .now) 0 (c .before .before .args .n))) (c .before .before .args .o .now))
+
+mul-emitted-in : tie.Need-mul-emitted-in Inv-loop μ-loop
+mul-emitted-in c = omega arith
+
+mul-emitted-in-2 : tie.Need-mul-emitted-in-2 Inv-loop μ-loop
+mul-emitted-in-2 c = omega arith
+
+shared-slice-read-emitted-in : tie.Need-shared-slice-read-emitted-in Inv-loop μ-loop
+shared-slice-read-emitted-in c = omega arith
+
+emitted-in-requires : tie.Need-emitted-in-requires Inv-loop μ-loop
+emitted-in-requires c κs = tt
+
+cast-o : tie.Need-cast-o Inv-loop μ-loop
+cast-o c = omega (arith, c .emitted-in .ensures, c .before .before .before .before .before .before .pre .2 (c .before .before .before .loop .i) (c .before .before .loop-test .taken))
 
 mul-o : tie.Need-mul-o Inv-loop μ-loop
 mul-o c = omega arith
 
-mul-o-2 : tie.Need-mul-o-2 Inv-loop μ-loop
-mul-o-2 c = omega arith
-
-shared-slice-read-o : tie.Need-shared-slice-read-o Inv-loop μ-loop
-shared-slice-read-o c = omega arith
-
-cast-o : tie.Need-cast-o Inv-loop μ-loop
-cast-o c = omega (arith, c .before .before .before .pre .2 (c .before .before .loop .i) (c .before .loop-test .taken))
-
-mul-o-3 : tie.Need-mul-o-3 Inv-loop μ-loop
-mul-o-3 c = omega arith
-
 slice-write-o : tie.Need-slice-write-o Inv-loop μ-loop
-slice-write-o c = omega (arith, c .before .before .loop .inv .1 .same, c .before .before .before .pre .1)
+slice-write-o c = omega (arith, c .before .before .before .loop .inv .1 .same, c .before .before .before .before .before .before .pre .1)
 
 add-i : tie.Need-add-i Inv-loop μ-loop
 add-i c = omega arith
@@ -42,14 +46,26 @@ loop-less : tie.Need-loop-less Inv-loop μ-loop
 loop-less c = omega arith
 
 loop-again : tie.Need-loop-again Inv-loop μ-loop
-loop-again c = (omega arith, filled-step (map emittedOf (rows (c .before .before .before .args .area .now) 0 (c .before .before .before .args .n))) (c .before .before .before .args .o .now) (c .before .before .loop .o) (c .before .before .loop .i) _ (c .before .before .loop .inv .1) (omega (arith, c .before .before .before .pre .1)) (signals-at (c .before .before .before .args .area .now) (c .before .before .before .args .n) (c .before .before .loop .i) (c .before .loop-test .taken)))
+loop-again c =
+    let at-loop-test = c .before .before in
+    let at-loop = at-loop-test .before in
+    let s = at-loop .before .before .before in
+    let a = s .args in (
+      omega arith,
+      filled-step (map emittedIn (rows (a .area .now) 0 (a .n))) (a .o .now) (at-loop .loop .o) (at-loop .loop .i) _ (at-loop .loop .inv .1) (omega (arith, s .pre .1))
+          (c .emitted-in .ensures ∙ signals-at (a .area .now) (a .n) (at-loop .loop .i) (at-loop-test .loop-test .taken)),
+    )
 
 same-length : tie.Need-same-length Inv-loop μ-loop
 same-length c = c .before .loop .inv .1 .same
 
 returns : tie.Need-returns Inv-loop μ-loop
-returns c = let l = fields-length emittedOf (c .before .before .args .area .now) 0 (c .before .before .args .n) in
-    filled-all (map emittedOf (rows (c .before .before .args .area .now) 0 (c .before .before .args .n))) (c .before .before .args .o .now) (c .before .loop .o) (c .before .loop .i) (c .before .loop .inv .1) (omega (arith, c .before .loop .inv .0, c .loop-test .left)) (omega (arith, c .before .before .pre .1))
+returns c =
+    let at-loop = c .before in
+    let s = at-loop .before .before .before in
+    let l = fields-length emittedIn (s .args .area .now) 0 (s .args .n) in
+    filled-all (map emittedIn (rows (s .args .area .now) 0 (s .args .n))) (s .args .o .now) (at-loop .loop .o) (at-loop .loop .i) (at-loop .loop .inv .1) (omega (arith, at-loop .loop .inv .0, c .loop-test .left))
+    (omega (arith, s .pre .1))
 
 pub fill-signals-spec : {M : Type 1} → statement M
 fill-signals-spec =
@@ -58,11 +74,12 @@ fill-signals-spec =
     Inv-loop
     μ-loop
     loop-holds
-    mul-o
-    mul-o-2
-    shared-slice-read-o
+    mul-emitted-in
+    mul-emitted-in-2
+    shared-slice-read-emitted-in
+    emitted-in-requires
     cast-o
-    mul-o-3
+    mul-o
     slice-write-o
     add-i
     loop-less

@@ -1,6 +1,5 @@
 -- `codes::just_ended` meets its contract.
 use borrow.Author.Needs.{needs}
-use native.Mathlib.Omega.{arith}
 use Rattle.reach.proofs.CodeSets.{view-ended}
 use Rattle.reach.proofs.codes.just_ended.Statement.{statement}
 use Rattle.reach.proofs.codes.just_ended.Tie as tie

@@ -13,7 +13,8 @@ use Rattle.table.specs.Reading.{operandOf}
 use Rattle.reach.specs.inner.Summaries.{outline, Summable}
 use Rattle.table.proofs.Places.{Node, above-ten}
 use Rattle.reach.proofs.Notes.{open-none, open-leaf, open-one, open-two, found-same, room-notes, note-fits}
-use Rattle.reach.proofs.SummedNodes.{at-none, at-nothing, at-pause, at-gotopause, at-emit, at-exit, never-unknown, exit-level, enter-signal, enter-loop, enter-try, at-signal, at-loop, at-try, present-splits, sequence-splits, parallel-splits, enter-first, enter-second, at-present, at-sequence, at-parallel}
+use Rattle.reach.proofs.SummedNodes.{at-none, at-nothing, at-pause, at-gotopause, at-emit, at-exit, never-unknown, exit-level, enter-signal, enter-loop, enter-try, at-signal}
+use Rattle.reach.proofs.SummedNodes.{at-loop, at-try, present-splits, sequence-splits, parallel-splits, enter-first, enter-second, at-present, at-sequence, at-parallel}
 use borrow.Fn.Kinds.{In}
 use borrow.Fn.PlainCycle.{Measures, is, falls, and}
 use Rattle.reach.proofs.summary.summary_at.Reads as summary-at
@@ -47,7 +48,36 @@ summary-at-below t =
     and 4 summary-at-kinds.ps (falls 4 summary-at-kinds.ps _<_ μ-summary-at t) summary-at.Pre
 
 abbrev claims : ℕ → summary-at-lts.Claims
-claims t = (of-nothing-reads.Asked, of-nothing-reads.Learnt, operand-of-reads.Asked, operand-of-reads.Learnt, kind-of-reads.Asked, kind-of-reads.Learnt, of-pause-reads.Asked, of-pause-reads.Learnt, of-gotopause-reads.Asked, of-gotopause-reads.Learnt, of-exit-reads.Asked, of-exit-reads.Learnt, summary-at-below t, summary-at.Post, note-child-reads.Asked, note-child-reads.Learnt, of-present-reads.Asked, of-present-reads.Learnt, of-sequence-reads.Asked, of-sequence-reads.Learnt, of-parallel-reads.Asked, of-parallel-reads.Learnt, of-loop-reads.Asked, of-loop-reads.Learnt, of-try-reads.Asked, of-try-reads.Learnt, refused-reads.Asked, refused-reads.Learnt)
+claims t = (
+  of-nothing-reads.Asked,
+  of-nothing-reads.Learnt,
+  operand-of-reads.Asked,
+  operand-of-reads.Learnt,
+  kind-of-reads.Asked,
+  kind-of-reads.Learnt,
+  of-pause-reads.Asked,
+  of-pause-reads.Learnt,
+  of-gotopause-reads.Asked,
+  of-gotopause-reads.Learnt,
+  of-exit-reads.Asked,
+  of-exit-reads.Learnt,
+  summary-at-below t,
+  summary-at.Post,
+  note-child-reads.Asked,
+  note-child-reads.Learnt,
+  of-present-reads.Asked,
+  of-present-reads.Learnt,
+  of-sequence-reads.Asked,
+  of-sequence-reads.Learnt,
+  of-parallel-reads.Asked,
+  of-parallel-reads.Learnt,
+  of-loop-reads.Asked,
+  of-loop-reads.Learnt,
+  of-try-reads.Asked,
+  of-try-reads.Learnt,
+  refused-reads.Asked,
+  refused-reads.Learnt,
+)
 
 -- past the tests: the node at the place
 module _ (t : ℕ) (e : summary-at-lts.After-kind-of (claims t) (summary-at-at t) summary-at.Post) where
@@ -127,79 +157,141 @@ module _ (t : ℕ) where
       (subst (λ (o : ℕ). 1 ≤ o) (sym (operand t e)) (exit-level (summable t e) (node t e 4 (c .match .keys5))), narrow t e)
 
   summary-at-requires : summary-at-lts.Need-summary-at-requires (claims t) (summary-at-at t) summary-at.Post
-  summary-at-requires c κs = let e = (c .before .before .before .before) in (falls-by-one t e, enter-signal (summable t e) (node t e 5 (c .before .before .before .match .keys6)))
+  summary-at-requires c κs =
+      let m = c .before .before .before in
+      let e = m .before in
+      (falls-by-one t e, enter-signal (summable t e) (node t e 5 (m .match .keys6)))
 
   note-child-requires : summary-at-lts.Need-note-child-requires (claims t) (summary-at-at t) summary-at.Post
-  note-child-requires c κs = let e = (c .before .before .before .before .before .before .before) in note-fits (node t e 5 (c .before .before .before .before .before .before .match .keys6)) (summable t e) (c .before .before .summary-at .ensures .0)
+  note-child-requires c κs =
+      let p = c .before .before in
+      let m = p .before .before .before .before in
+      let e = m .before in
+      note-fits (node t e 5 (m .match .keys6)) (summable t e) (p .summary-at .ensures .0)
 
   summary-at-requires-2 : summary-at-lts.Need-summary-at-requires-2 (claims t) (summary-at-at t) summary-at.Post
-  summary-at-requires-2 c κs = let e = (c .before .before .before .before) in (falls-by-one t e, enter-first present-splits (node t e 6 (c .before .before .before .match .keys7)) (summable t e))
+  summary-at-requires-2 c κs =
+      let m = c .before .before .before in
+      let e = m .before in
+      (falls-by-one t e, enter-first present-splits (node t e 6 (m .match .keys7)) (summable t e))
 
   note-child-requires-2 : summary-at-lts.Need-note-child-requires-2 (claims t) (summary-at-at t) summary-at.Post
-  note-child-requires-2 c κs = let e = (c .before .before .before .before .before .before .before) in note-fits (node t e 6 (c .before .before .before .before .before .before .match .keys7)) (summable t e) (c .before .before .summary-at2 .ensures .0)
+  note-child-requires-2 c κs =
+      let p = c .before .before in
+      let m = p .before .before .before .before in
+      let e = m .before in
+      note-fits (node t e 6 (m .match .keys7)) (summable t e) (p .summary-at2 .ensures .0)
 
   summary-at-requires-3 : summary-at-lts.Need-summary-at-requires-3 (claims t) (summary-at-at t) summary-at.Post
   summary-at-requires-3 c κs =
-      let e = (c .before .before .before .before .before .before .before .before .before .before .before) in
-      let n = node t e 6 (c .before .before .before .before .before .before .before .before .before .before .match .keys7) in
-      let p = c .before .before .before .before .before .before .summary-at2 .ensures in
-      let w = c .before .before .before .note-child2 .ensures in
-      (falls-by-one t e, enter-second present-splits n (summable t e) (found-same n (summable t e) (p .0) (p .1) w) (room-notes n (summable t e) (p .0) (p .1) w))
+      let w = c .before .before .before in
+      let p = w .before .before .before in
+      let m = p .before .before .before .before in
+      let e = m .before in
+      let n = node t e 6 (m .match .keys7) in
+      let (s, l) = p .summary-at2 .ensures in
+      let o = w .note-child2 .ensures in
+      (falls-by-one t e, enter-second present-splits n (summable t e) (found-same n (summable t e) s l o) (room-notes n (summable t e) s l o))
 
   of-present-requires : summary-at-lts.Need-of-present-requires (claims t) (summary-at-at t) summary-at.Post
   of-present-requires c κs = tt
 
   summary-at-requires-4 : summary-at-lts.Need-summary-at-requires-4 (claims t) (summary-at-at t) summary-at.Post
-  summary-at-requires-4 c κs = let e = (c .before .before .before .before) in (falls-by-one t e, enter-first sequence-splits (node t e 7 (c .before .before .before .match .keys8)) (summable t e))
+  summary-at-requires-4 c κs =
+      let m = c .before .before .before in
+      let e = m .before in
+      (falls-by-one t e, enter-first sequence-splits (node t e 7 (m .match .keys8)) (summable t e))
 
   note-child-requires-3 : summary-at-lts.Need-note-child-requires-3 (claims t) (summary-at-at t) summary-at.Post
-  note-child-requires-3 c κs = let e = (c .before .before .before .before .before .before .before) in note-fits (node t e 7 (c .before .before .before .before .before .before .match .keys8)) (summable t e) (c .before .before .summary-at4 .ensures .0)
+  note-child-requires-3 c κs =
+      let p = c .before .before in
+      let m = p .before .before .before .before in
+      let e = m .before in
+      note-fits (node t e 7 (m .match .keys8)) (summable t e) (p .summary-at4 .ensures .0)
 
   summary-at-requires-5 : summary-at-lts.Need-summary-at-requires-5 (claims t) (summary-at-at t) summary-at.Post
   summary-at-requires-5 c κs =
-      let e = (c .before .before .before .before .before .before .before .before .before .before .before) in
-      let n = node t e 7 (c .before .before .before .before .before .before .before .before .before .before .match .keys8) in
-      let p = c .before .before .before .before .before .before .summary-at4 .ensures in
-      let w = c .before .before .before .note-child3 .ensures in
-      (falls-by-one t e, enter-second sequence-splits n (summable t e) (found-same n (summable t e) (p .0) (p .1) w) (room-notes n (summable t e) (p .0) (p .1) w))
+      let w = c .before .before .before in
+      let p = w .before .before .before in
+      let m = p .before .before .before .before in
+      let e = m .before in
+      let n = node t e 7 (m .match .keys8) in
+      let (s, l) = p .summary-at4 .ensures in
+      let o = w .note-child3 .ensures in
+      (falls-by-one t e, enter-second sequence-splits n (summable t e) (found-same n (summable t e) s l o) (room-notes n (summable t e) s l o))
 
   of-sequence-requires : summary-at-lts.Need-of-sequence-requires (claims t) (summary-at-at t) summary-at.Post
-  of-sequence-requires c κs = c .before .summary-at5 .ensures .0 .size ∙ c .before .before .before .before .before .before .before .before .summary-at4 .ensures .0 .size ∙ summable t (c .before .before .before .before .before .before .before .before .before .before .before .before .before) .room
+  of-sequence-requires c κs =
+      let q = c .before in
+      let w = q .before .before .before .before in
+      let p = w .before .before .before in
+      let m = p .before .before .before .before in
+      q .summary-at5 .ensures .0 .size ∙ p .summary-at4 .ensures .0 .size ∙ summable t (m .before) .room
 
   summary-at-requires-6 : summary-at-lts.Need-summary-at-requires-6 (claims t) (summary-at-at t) summary-at.Post
-  summary-at-requires-6 c κs = let e = (c .before .before .before .before) in (falls-by-one t e, enter-first parallel-splits (node t e 8 (c .before .before .before .match .keys9)) (summable t e))
+  summary-at-requires-6 c κs =
+      let m = c .before .before .before in
+      let e = m .before in
+      (falls-by-one t e, enter-first parallel-splits (node t e 8 (m .match .keys9)) (summable t e))
 
   note-child-requires-4 : summary-at-lts.Need-note-child-requires-4 (claims t) (summary-at-at t) summary-at.Post
-  note-child-requires-4 c κs = let e = (c .before .before .before .before .before .before .before) in note-fits (node t e 8 (c .before .before .before .before .before .before .match .keys9)) (summable t e) (c .before .before .summary-at6 .ensures .0)
+  note-child-requires-4 c κs =
+      let p = c .before .before in
+      let m = p .before .before .before .before in
+      let e = m .before in
+      note-fits (node t e 8 (m .match .keys9)) (summable t e) (p .summary-at6 .ensures .0)
 
   summary-at-requires-7 : summary-at-lts.Need-summary-at-requires-7 (claims t) (summary-at-at t) summary-at.Post
   summary-at-requires-7 c κs =
-      let e = (c .before .before .before .before .before .before .before .before .before .before .before) in
-      let n = node t e 8 (c .before .before .before .before .before .before .before .before .before .before .match .keys9) in
-      let p = c .before .before .before .before .before .before .summary-at6 .ensures in
-      let w = c .before .before .before .note-child4 .ensures in
-      (falls-by-one t e, enter-second parallel-splits n (summable t e) (found-same n (summable t e) (p .0) (p .1) w) (room-notes n (summable t e) (p .0) (p .1) w))
+      let w = c .before .before .before in
+      let p = w .before .before .before in
+      let m = p .before .before .before .before in
+      let e = m .before in
+      let n = node t e 8 (m .match .keys9) in
+      let (s, l) = p .summary-at6 .ensures in
+      let o = w .note-child4 .ensures in
+      (falls-by-one t e, enter-second parallel-splits n (summable t e) (found-same n (summable t e) s l o) (room-notes n (summable t e) s l o))
 
   of-parallel-requires : summary-at-lts.Need-of-parallel-requires (claims t) (summary-at-at t) summary-at.Post
   of-parallel-requires c κs = tt
 
   summary-at-requires-8 : summary-at-lts.Need-summary-at-requires-8 (claims t) (summary-at-at t) summary-at.Post
-  summary-at-requires-8 c κs = let e = (c .before .before .before .before) in (falls-by-one t e, enter-loop (summable t e) (node t e 9 (c .before .before .before .match .keys10)))
+  summary-at-requires-8 c κs =
+      let m = c .before .before .before in
+      let e = m .before in
+      (falls-by-one t e, enter-loop (summable t e) (node t e 9 (m .match .keys10)))
 
   note-child-requires-5 : summary-at-lts.Need-note-child-requires-5 (claims t) (summary-at-at t) summary-at.Post
-  note-child-requires-5 c κs = let e = (c .before .before .before .before .before .before .before) in note-fits (node t e 9 (c .before .before .before .before .before .before .match .keys10)) (summable t e) (c .before .before .summary-at8 .ensures .0)
+  note-child-requires-5 c κs =
+      let p = c .before .before in
+      let m = p .before .before .before .before in
+      let e = m .before in
+      note-fits (node t e 9 (m .match .keys10)) (summable t e) (p .summary-at8 .ensures .0)
 
   of-loop-requires : summary-at-lts.Need-of-loop-requires (claims t) (summary-at-at t) summary-at.Post
-  of-loop-requires c κs = c .before .before .before .before .summary-at8 .ensures .0 .size ∙ summable t (c .before .before .before .before .before .before .before .before .before) .room
+  of-loop-requires c κs =
+      let p = c .before .before .before .before in
+      let m = p .before .before .before .before in
+      p .summary-at8 .ensures .0 .size ∙ summable t (m .before) .room
 
   summary-at-requires-9 : summary-at-lts.Need-summary-at-requires-9 (claims t) (summary-at-at t) summary-at.Post
-  summary-at-requires-9 c κs = let e = (c .before .before .before .before) in (falls-by-one t e, enter-try (summable t e) (node t e 10 (c .before .before .before .match .keys11)))
+  summary-at-requires-9 c κs =
+      let m = c .before .before .before in
+      let e = m .before in
+      (falls-by-one t e, enter-try (summable t e) (node t e 10 (m .match .keys11)))
 
   note-child-requires-6 : summary-at-lts.Need-note-child-requires-6 (claims t) (summary-at-at t) summary-at.Post
-  note-child-requires-6 c κs = let e = (c .before .before .before .before .before .before .before) in note-fits (node t e 10 (c .before .before .before .before .before .before .match .keys11)) (summable t e) (c .before .before .summary-at9 .ensures .0)
+  note-child-requires-6 c κs =
+      let p = c .before .before in
+      let m = p .before .before .before .before in
+      let e = m .before in
+      note-fits (node t e 10 (m .match .keys11)) (summable t e) (p .summary-at9 .ensures .0)
 
   of-try-requires : summary-at-lts.Need-of-try-requires (claims t) (summary-at-at t) summary-at.Post
-  of-try-requires c κs = c .before .before .before .before .summary-at9 .ensures .0 .size ∙ summable t (c .before .before .before .before .before .before .before .before .before) .room
+  of-try-requires c κs =
+      let p = c .before .before .before .before in
+      let m = p .before .before .before .before in
+      p .summary-at9 .ensures .0 .size ∙ summable t (m .before) .room
 
   refused-requires : summary-at-lts.Need-refused-requires (claims t) (summary-at-at t) summary-at.Post
   refused-requires c κs = tt
@@ -236,65 +328,79 @@ module _ (t : ℕ) where
   returns-7 : summary-at-lts.Need-returns-7 (claims t) (summary-at-at t) summary-at.Post
   unfolding kindOf kinds rowOf
   returns-7 c =
-      let e = (c .before .before .before .before .before .before .before .before) in
-      let n = node t e 5 (c .before .before .before .before .before .before .before .match .keys6) in
-      let p = c .before .before .before .summary-at .ensures in
-      let w = c .note-child .ensures in
-      let f = found-same n (summable t e) (p .0) (p .1) w in
-      (at-signal n f, open-one n (summable t e) (p .0) (p .1) w refl)
+      let p = c .before .before .before in
+      let m = p .before .before .before .before in
+      let e = m .before in
+      let n = node t e 5 (m .match .keys6) in
+      let (s, l) = p .summary-at .ensures in
+      let o = c .note-child .ensures in
+      (at-signal n (found-same n (summable t e) s l o), open-one n (summable t e) s l o refl)
 
   returns-8 : summary-at-lts.Need-returns-8 (claims t) (summary-at-at t) summary-at.Post
   unfolding kindOf kinds rowOf
   returns-8 c =
-      let e = (c .before .before .before .before .before .before .before .before .before .before .before .before .before) in
-      let n = node t e 6 (c .before .before .before .before .before .before .before .before .before .before .before .before .match .keys7) in
-      let p = c .before .before .before .before .before .before .before .before .summary-at2 .ensures in
-      let w = c .before .before .before .before .before .note-child2 .ensures in
-      let f = found-same n (summable t e) (p .0) (p .1) w in
-      let q = c .before .summary-at3 .ensures in
-      (at-present (summable t e) f (q .0) _ n (c .of-present .ensures), open-two n (summable t e) (p .0) (p .1) w refl (q .1))
+      let q = c .before in
+      let w = q .before .before .before .before in
+      let p = w .before .before .before in
+      let m = p .before .before .before .before in
+      let e = m .before in
+      let n = node t e 6 (m .match .keys7) in
+      let (s, l) = p .summary-at2 .ensures in
+      let o = w .note-child2 .ensures in
+      let (s₂, l₂) = q .summary-at3 .ensures in
+      (at-present (summable t e) (found-same n (summable t e) s l o) s₂ _ n (c .of-present .ensures), open-two n (summable t e) s l o refl l₂)
 
   returns-9 : summary-at-lts.Need-returns-9 (claims t) (summary-at-at t) summary-at.Post
   unfolding kindOf kinds rowOf
   returns-9 c =
-      let e = (c .before .before .before .before .before .before .before .before .before .before .before .before .before .before) in
-      let n = node t e 7 (c .before .before .before .before .before .before .before .before .before .before .before .before .before .match .keys8) in
-      let p = c .before .before .before .before .before .before .before .before .before .summary-at4 .ensures in
-      let w = c .before .before .before .before .before .before .note-child3 .ensures in
-      let f = found-same n (summable t e) (p .0) (p .1) w in
-      let q = c .before .before .summary-at5 .ensures in
-      (at-sequence (summable t e) f (q .0) _ _ n (c .of-sequence .ensures), open-two n (summable t e) (p .0) (p .1) w refl (q .1))
+      let q = c .before .before in
+      let w = q .before .before .before .before in
+      let p = w .before .before .before in
+      let m = p .before .before .before .before in
+      let e = m .before in
+      let n = node t e 7 (m .match .keys8) in
+      let (s, l) = p .summary-at4 .ensures in
+      let o = w .note-child3 .ensures in
+      let (s₂, l₂) = q .summary-at5 .ensures in
+      (at-sequence (summable t e) (found-same n (summable t e) s l o) s₂ _ _ n (c .of-sequence .ensures), open-two n (summable t e) s l o refl l₂)
 
   returns-10 : summary-at-lts.Need-returns-10 (claims t) (summary-at-at t) summary-at.Post
   unfolding kindOf kinds rowOf
   returns-10 c =
-      let e = (c .before .before .before .before .before .before .before .before .before .before .before .before .before) in
-      let n = node t e 8 (c .before .before .before .before .before .before .before .before .before .before .before .before .match .keys9) in
-      let p = c .before .before .before .before .before .before .before .before .summary-at6 .ensures in
-      let w = c .before .before .before .before .before .note-child4 .ensures in
-      let f = found-same n (summable t e) (p .0) (p .1) w in
-      let q = c .before .summary-at7 .ensures in
-      (at-parallel (summable t e) f (q .0) _ n (c .of-parallel .ensures), open-two n (summable t e) (p .0) (p .1) w refl (q .1))
+      let q = c .before in
+      let w = q .before .before .before .before in
+      let p = w .before .before .before in
+      let m = p .before .before .before .before in
+      let e = m .before in
+      let n = node t e 8 (m .match .keys9) in
+      let (s, l) = p .summary-at6 .ensures in
+      let o = w .note-child4 .ensures in
+      let (s₂, l₂) = q .summary-at7 .ensures in
+      (at-parallel (summable t e) (found-same n (summable t e) s l o) s₂ _ n (c .of-parallel .ensures), open-two n (summable t e) s l o refl l₂)
 
   returns-11 : summary-at-lts.Need-returns-11 (claims t) (summary-at-at t) summary-at.Post
   unfolding kindOf kinds rowOf
   returns-11 c =
-      let e = (c .before .before .before .before .before .before .before .before .before .before) in
-      let n = node t e 9 (c .before .before .before .before .before .before .before .before .before .match .keys10) in
-      let p = c .before .before .before .before .before .summary-at8 .ensures in
-      let w = c .before .before .note-child5 .ensures in
-      let f = found-same n (summable t e) (p .0) (p .1) w in
-      (at-loop _ _ n f (c .of-loop .ensures), open-one n (summable t e) (p .0) (p .1) w refl)
+      let w = c .before .before in
+      let p = w .before .before .before in
+      let m = p .before .before .before .before in
+      let e = m .before in
+      let n = node t e 9 (m .match .keys10) in
+      let (s, l) = p .summary-at8 .ensures in
+      let o = w .note-child5 .ensures in
+      (at-loop _ _ n (found-same n (summable t e) s l o) (c .of-loop .ensures), open-one n (summable t e) s l o refl)
 
   returns-12 : summary-at-lts.Need-returns-12 (claims t) (summary-at-at t) summary-at.Post
   unfolding kindOf kinds rowOf
   returns-12 c =
-      let e = (c .before .before .before .before .before .before .before .before .before .before) in
-      let n = node t e 10 (c .before .before .before .before .before .before .before .before .before .match .keys11) in
-      let p = c .before .before .before .before .before .summary-at9 .ensures in
-      let w = c .before .before .note-child6 .ensures in
-      let f = found-same n (summable t e) (p .0) (p .1) w in
-      (at-try _ _ n f (c .of-try .ensures), open-one n (summable t e) (p .0) (p .1) w refl)
+      let w = c .before .before in
+      let p = w .before .before .before in
+      let m = p .before .before .before .before in
+      let e = m .before in
+      let n = node t e 10 (m .match .keys11) in
+      let (s, l) = p .summary-at9 .ensures in
+      let o = w .note-child6 .ensures in
+      (at-try _ _ n (found-same n (summable t e) s l o) (c .of-try .ensures), open-one n (summable t e) s l o refl)
 
   returns-13 : summary-at-lts.Need-returns-13 (claims t) (summary-at-at t) summary-at.Post
   returns-13 c =

@@ -37,18 +37,22 @@ without-requires c κs = tt
 
 loop-less : tie.Need-loop-less Inv-loop μ-loop
 loop-less c =
-    let f = c .before .before .before .before .before .before .before .least in
-    walk-falls (c .before .before .before .before .before .before .before .before .before .loop .rest) (f .result) (c .without .result) (f .ensures .0) (f .ensures .1) (c .without .ensures)
+    let r = c .before .before .before .before .before in
+    let f = r .before .before in
+    let l = f .before .before in
+    walk-falls (l .loop .rest) (f .least .result) (c .without .result) (f .least .ensures .0) (f .least .ensures .1) (c .without .ensures)
 
 loop-again : tie.Need-loop-again Inv-loop μ-loop
 loop-again c =
-    let f = c .before .before .before .before .before .before .before .least in
-    let l = c .before .before .before .before .before .before .before .before .before .loop in
-    let a = c .before .before .before .before .before .before .before .before .before .before in
+    let k = c .before .before in
+    let r = k .before .before .before in
+    let f = r .before .before in
+    let l = f .before .before in
+    let a = l .before in
     let after = codesOf (a .args .after) in
-    walk-on (a .args .set) (l .rest) (λ K. join (minusZero K) after) (a .args .kept .now) (l .kept) (l .inv) (f .result) (f .ensures .0) (f .ensures .1) (a .pre)
-    (c .before .before .join .result)
-    (c .before .before .join .ensures ∙ ap (λ (K : Codes). join K after) (c .before .before .before .minus-zero .ensures ∙ ap minusZero (c .before .before .before .before .before .read .ensures)))
+    walk-on (a .args .set) (l .loop .rest) (λ K. join (minusZero K) after) (a .args .kept .now) (l .loop .kept) (l .loop .inv)
+    (f .least .result) (f .least .ensures .0) (f .least .ensures .1) (a .pre) (k .join .result)
+    (k .join .ensures ∙ ap (λ (K : Codes). join K after) (k .before .minus-zero .ensures ∙ ap minusZero (r .read .ensures)))
     _ (c .before .store .ensures) (c .without .result) (c .without .ensures)
 
 returns : tie.Need-returns Inv-loop μ-loop

@@ -45,20 +45,23 @@ without-requires c κs = tt
 
 loop-less : tie.Need-loop-less Inv-loop μ-loop
 loop-less c =
-    let f = c .before .before .before .before .before .before .before .before .before .least in
-    walk-falls (c .before .before .before .before .before .before .before .before .before .before .before .loop .rest) (f .result) (c .without .result) (f .ensures .0) (f .ensures .1) (c .without .ensures)
+    let g = c .before .before .before .before .before .before in
+    let f = g .before .before .before in
+    let l = f .before .before in
+    walk-falls (l .loop .rest) (f .least .result) (c .without .result) (f .least .ensures .0) (f .least .ensures .1) (c .without .ensures)
 
 loop-again : tie.Need-loop-again Inv-loop μ-loop
 unfolding _union_
 loop-again c =
-    let f = c .before .before .before .before .before .before .before .before .before .least in
-    let l = c .before .before .before .before .before .before .before .before .before .before .before .loop in
-    let a = c .before .before .before .before .before .before .before .before .before .before .before .before in
-    let g = c .before .before .before .before .before .before .through-try in
-    lower-on (a .args .set) (l .rest) (a .args .kept .now) (l .kept) (l .ending) (l .inv) (f .result) (f .ensures .0) (f .ensures .1) (a .pre)
-    (g .result) (g .ensures ∙ ap throughTry (c .before .before .before .before .before .before .before .read .ensures)) _ (c .before .before .before .before .store .ensures)
-    (c .before .set-if .result)
-    (c .before .set-if .ensures ∙ ap₂ (λ (z : Bool) (m : ℕ). cond z m 0) (c .before .before .before .ends .ensures) (c .before .before .singleton .ensures ∙ only-fits 64 (f .result) (f .ensures .0)))
+    let o = c .before in
+    let g = c .before .before .before .before .before .before in
+    let f = g .before .before .before in
+    let l = f .before .before in
+    let a = l .before in
+    lower-on (a .args .set) (l .loop .rest) (a .args .kept .now) (l .loop .kept) (l .loop .ending) (l .loop .inv)
+    (f .least .result) (f .least .ensures .0) (f .least .ensures .1) (a .pre)
+    (g .through-try .result) (g .through-try .ensures ∙ ap throughTry (g .before .read .ensures)) _ (o .before .before .before .store .ensures) (o .set-if .result)
+    (o .set-if .ensures ∙ ap₂ (λ (z : Bool) (m : ℕ). cond z m 0) (o .before .before .ends .ensures) (o .before .singleton .ensures ∙ only-fits 64 (f .least .result) (f .least .ensures .0)))
     (c .without .result) (c .without .ensures)
 
 returns : tie.Need-returns Inv-loop μ-loop

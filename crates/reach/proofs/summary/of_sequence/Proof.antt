@@ -24,9 +24,11 @@ set-if-requires c κs = search needs
 returns : tie.Need-returns
 unfolding outlineOf sequenceOutline _union_
 returns c =
-    let a = c .before .before .before .before .before .before .before .before .before .before .args in
-    let e = c .before .set-if .ensures ∙ ap (λ (z : Bool). cond z (a .p .ending) 0) (c .before .before .ends .ensures) in
-    (same-outline (c .before .before .before .before .before .followed-by .ensures) (ap (λ (m : ℕ). m union a .q .ending) e), c .before .before .before .before .before .before .follow-each .ensures)
+    let o = c .before in
+    let g = c .before .before .before .before .before .before in
+    let a = g .before .before .before .before .args in
+    let e = o .set-if .ensures ∙ ap (λ (z : Bool). cond z (a .p .ending) 0) (o .before .ends .ensures) in
+    (same-outline (c .before .before .before .before .before .followed-by .ensures) (ap (λ (m : ℕ). m union a .q .ending) e), g .follow-each .ensures)
 
 pub of-sequence-spec : {M : Type 1} → statement M
 of-sequence-spec = tie.close (tie.spec follow-each-requires followed-by-requires ends-requires set-if-requires returns)

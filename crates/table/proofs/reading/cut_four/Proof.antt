@@ -78,7 +78,9 @@ same-length c = search needs
 returns : tie.Need-returns
 returns c =
     let s = c .before .before .before .before .before .before in
-    four-cut (s .args .table .now) _ _ (λ i. omega (arith, c .before .before .before .before .before .shared-slice-known .given i)) _ _ _ _ _ (s .pre .0) refl (s .pre .3) (s .pre .2) (c .before .before .before .field-at .ensures) (c .before .before .field-at2 .ensures) (c .before .field-at3 .ensures) (c .field-at4 .ensures)
+    let first = c .before .before .before in
+    four-cut (s .args .table .now) _ _ (λ i. omega (arith, first .before .before .shared-slice-known .given i)) _ _ _ _ _ (s .pre .0) refl (s .pre .3) (s .pre .2)
+    (first .field-at .ensures) (c .before .before .field-at2 .ensures) (c .before .field-at3 .ensures) (c .field-at4 .ensures)
 
 pub cut-four-spec : {M : Type 1} → statement M
 cut-four-spec =

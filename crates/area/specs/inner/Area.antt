@@ -9,18 +9,18 @@ use lib.ListN.{length, getD}
 use Rattle.esterel.specs.Reactions.{Reaction}
 use Rattle.esterel.specs.Listing.{Rising, reaction, before, sorted}
 use Rattle.area.specs.declared.Change.{Change}
-use Rattle.area.specs.Rules.{change}
+use Rattle.area.specs.inner.Rules.{change}
 
 unfoldable pub packed : ℕ → ℕ → Reaction
 packed w l = reaction (w / 256) (w % 256) l
 
-abbrev pub row : List ℕ → ℕ → Reaction
-row a q = packed (getD a q 0) (getD a (q + 1) 0)
+abbrev pub rowAt : List ℕ → ℕ → Reaction
+rowAt a q = packed (getD a q 0) (getD a (q + 1) 0)
 
 -- the n reactions from the word q on
 unfoldable pub rows : List ℕ → ℕ → ℕ → List Reaction
 rows a q zero = []
-rows a q (suc n) = row a q ∷ rows a (q + 2) n
+rows a q (suc n) = rowAt a q ∷ rows a (q + 2) n
 
 -- a list of over 64 reactions counts as none
 unfoldable pub cap : List Reaction → Option (List Reaction)
@@ -34,8 +34,8 @@ collect ts = cap (sorted ts)
 abbrev pub Low : ℕ → List ℕ → List ℕ → Type 0
 Low base a b = (i : ℕ) → i < base → getD b i 0 ≡ getD a i 0
 
--- From a to b the list v was written at base, and n says how that ended: so many reactions; 65, there are over 64;
--- 66, the area was too small, which one of `need` words is not.
+-- From a to b the list v was written at base, and n says how that ended: so many reactions; 65, there are over 64; a number
+-- above 65 comes only where the area has fewer than `need` words.
 pub record Made (a b : List ℕ) (base need : ℕ) (v : Option (List Reaction)) (n : ℕ) : Type 0 where
   pub same : length b ≡ length a
   pub low : Low base a b
@@ -52,13 +52,13 @@ pub record Put (a b : List ℕ) (base n : ℕ) (v : Option (List Reaction)) (r :
   pub count : r ≤ n + 1
 
 -- where a search from the end stops: r of the n reactions are not above x
-pub record Found (a : List ℕ) (base n : ℕ) (x : Reaction) (r : ℕ) : Type 0 where
+pub record Searched (a : List ℕ) (base n : ℕ) (x : Reaction) (r : ℕ) : Type 0 where
   pub within : r ≤ n
-  pub above : (i : ℕ) → r ≤ i → i < n → before x (row a (base + 2 * i)) ≡ true
-  pub last : (j : ℕ) → r ≡ j + 1 → before x (row a (base + 2 * j)) ≡ false
+  pub above : (i : ℕ) → r ≤ i → i < n → before x (rowAt a (base + 2 * i)) ≡ true
+  pub last : (j : ℕ) → r ≡ j + 1 → before x (rowAt a (base + 2 * j)) ≡ false
 
 -- the words from f to t stand two places up
-pub record Opened (a b : List ℕ) (f t : ℕ) : Type 0 where
+pub record MovedUp (a b : List ℕ) (f t : ℕ) : Type 0 where
   pub same : length b ≡ length a
   pub low : Low f a b
   pub moved : (i : ℕ) → f ≤ i → i < t → getD b (i + 2) 0 ≡ getD a i 0
@@ -73,7 +73,7 @@ pub record Stored (a b : List ℕ) (q w l : ℕ) : Type 0 where
   pub high : (i : ℕ) → q + 2 ≤ i → getD b i 0 ≡ getD a i 0
 
 -- the n reactions at f stand at t
-pub record Lowered (a b : List ℕ) (t f n : ℕ) : Type 0 where
+pub record MovedDown (a b : List ℕ) (t f n : ℕ) : Type 0 where
   pub same : length b ≡ length a
   pub low : Low t a b
   pub moved : rows b t n ≡ rows a f n

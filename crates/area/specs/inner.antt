@@ -1,0 +1,3 @@
+-- Lists of reactions in a lent area, and how they are made one of another: what the functions of this crate ask and leave.
+pub mod Rules
+pub mod Area

@@ -1,0 +1,24 @@
+-- `reach::refusal` meets its contract.
+use mathlib.Core.Path.{ap, sym}
+use borrow.Author.Needs.{needs}
+use Rattle.table.specs.Outcomes.{numberOf}
+use Rattle.reach.specs.Answers.{reachedOutcome}
+use Rattle.reach.proofs.refusal.Statement.{statement}
+use Rattle.reach.proofs.refusal.Tie as tie
+
+enum-known-answer : tie.Need-enum-known-answer
+enum-known-answer c = search needs
+
+enum-told : tie.Need-enum-told
+enum-told c = search needs
+
+returns : tie.Need-returns
+unfolding numberOf reachedOutcome
+returns c = search needs
+
+returns-2 : tie.Need-returns-2
+unfolding numberOf reachedOutcome
+returns-2 c = search needs
+
+pub refusal-spec : {M : Type 1} → statement M
+refusal-spec = tie.close (tie.spec enum-known-answer enum-told returns returns-2)
