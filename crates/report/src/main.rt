@@ -49,6 +49,7 @@ fn report(table: &[u8]) {
         print_refused(reach::refusal(reached));
         return;
     };
+    // Room for the longest table, so that 13 is not given.
     let mut out = [0u8; 1282];
     let trimmed = trim::trim(table, &mut out);
     let Trimmed::Accepted(after) = trimmed else {

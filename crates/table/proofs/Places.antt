@@ -143,28 +143,16 @@ placed-none zero nodes at h = refl
 placed-none (suc m) nodes at (inl e) = absurd (omega arith)
 placed-none (suc m) nodes at (inr h) = rw (le-ltb at (length nodes) h)
 
-all-same : {A : Type 0} (a : A) (n j : ℕ) → getD (replicate n a) j a ≡ a
-all-same a zero j = refl
-all-same a (suc n) zero = refl
-all-same a (suc n) (suc j) = all-same a n j
-
-pub kind-unused : (k : ℕ) → 11 ≤ k → kindOf k ≡ Kind.unused
-unfolding kindOf kinds
-kind-unused k h =
-    let e : k ≡ suc (suc (suc (suc (suc (suc (suc (suc (suc (suc (suc (k - 11))))))))))) = omega arith in
-    ap kindOf e ∙ all-same Kind.unused 5 (k - 11)
-
 -- a number that is at least m and is not m
 pub past : (m k : ℕ) → m ≤ k → (k ≡ m → ⊥) → suc m ≤ k
 past m k h f = omega arith
 
 -- none of the kinds 0 to 10
-
 pub above-ten : (k : ℕ) → (k ≡ 0 → ⊥) → (k ≡ 1 → ⊥) → (k ≡ 2 → ⊥) → (k ≡ 3 → ⊥) → (k ≡ 4 → ⊥) → (k ≡ 5 → ⊥) → (k ≡ 6 → ⊥) → (k ≡ 7 → ⊥) → (k ≡ 8 → ⊥) → (k ≡ 9 → ⊥) → (k ≡ 10 → ⊥) → 11 ≤ k
 above-ten k n0 n1 n2 n3 n4 n5 n6 n7 n8 n9 n10 =
     past 10 k (past 9 k (past 8 k (past 7 k (past 6 k (past 5 k (past 4 k (past 3 k (past 2 k (past 1 k (past 0 k zero-le n0) n1) n2) n3) n4) n5) n6) n7) n8) n9) n10
 
--- what is known where a decision over the eleven kinds has passed them all
+-- as it is known where a decision over the kinds has passed them all
 pub none-of-kinds : {A : Type 0} (k : ℕ) → ((((((((((A × (k ≡ 0 → ⊥)) × (k ≡ 1 → ⊥)) × (k ≡ 2 → ⊥)) × (k ≡ 3 → ⊥)) × (k ≡ 4 → ⊥)) × (k ≡ 5 → ⊥)) × (k ≡ 6 → ⊥)) × (k ≡ 7 → ⊥)) × (k ≡ 8 → ⊥)) × (k ≡ 9 → ⊥)) × (k ≡ 10 → ⊥) → 11 ≤ k
 none-of-kinds k ((((((((((((a, n0), n1), n2), n3), n4), n5), n6), n7), n8), n9), n10)) = above-ten k n0 n1 n2 n3 n4 n5 n6 n7 n8 n9 n10
 

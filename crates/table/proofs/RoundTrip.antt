@@ -77,10 +77,6 @@ pub length-write : (p : Statement) → length (write p) ≡ lengthOf (size p)
 unfolding write
 length-write p = length-writeNodes (nodes p) ∙ ap lengthOf (length-nodes p)
 
--- the writer may be called with its nodes
-pub writable : (p : Statement) (room : ℕ) → Ranged p → size p < 4096 → lengthOf (size p) ≤ room → Writable (nodes p) room
-writable p room r few fits = record { few = rw length-nodes few; fields = below-nodes p r; fits = rw length-nodes fits }
-
 -- what is written are bytes
 pub below-write : (p : Statement) → Below 256 (write p)
 unfolding write writeNodes
@@ -135,9 +131,6 @@ one-statement t n n′ p p′ h h′ = cc
 
 pub one-table : (p : Statement) → Allowed p → (t : List ℕ) → Below 256 t → (tableOf t ≡ holds (size p) p) ↔ (t ≡ write p)
 one-table p a t bytes = (λ h. sym (write-read t (size p) p bytes h), λ e. ap tableOf e ∙ read-written p a)
-
-pub same-table : (t t′ : List ℕ) (n n′ : ℕ) (p : Statement) → Below 256 t → Below 256 t′ → tableOf t ≡ holds n p → tableOf t′ ≡ holds n′ p → t ≡ t′
-same-table t t′ n n′ p bytes bytes′ h h′ = sym (write-read t n p bytes h) ∙ write-read t′ n′ p bytes′ h′
 
 -- ---- Beyond the limits
 

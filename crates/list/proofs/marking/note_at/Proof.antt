@@ -4,7 +4,7 @@ use Prim.Native.Nat.{ℕ, _%_, _^_, _<_}
 use mathlib.Core.Path.{sym, ap, _∙_, subst}
 use lib.ListN.{getD}
 use Rattle.sets.specs.Set.{only}
-use Rattle.table.proofs.Places.{above-ten}
+use Rattle.table.proofs.Places.{none-of-kinds}
 use Rattle.list.proofs.Nodes.{not-known}
 use Rattle.list.proofs.Marks.{has-room, pause-word, mark-nothing, mark-pause, mark-gotopause, mark-emit, mark-exit, mark-signal, mark-present, mark-sequence, mark-parallel, mark-loop, mark-try}
 use borrow.Author.Needs.{needs}
@@ -310,9 +310,7 @@ returns-12 c =
     let at-kind-of = at-match .before .before .before in
     let s = at-kind-of .before .before .before .before .before in
     absurd (not-known (s .args .nodes .now) (s .args .at) _ (s .pre .2) (at-kind-of .kind-of .ensures)
-    (above-ten (at-kind-of .kind-of .result) (at-match .match .rest .0 .0 .0 .0 .0 .0 .0 .0 .0 .0 .1) (at-match .match .rest .0 .0 .0 .0 .0 .0 .0 .0 .0 .1) (at-match .match .rest .0 .0 .0 .0 .0 .0 .0 .0 .1)
-    (at-match .match .rest .0 .0 .0 .0 .0 .0 .0 .1) (at-match .match .rest .0 .0 .0 .0 .0 .0 .1) (at-match .match .rest .0 .0 .0 .0 .0 .1) (at-match .match .rest .0 .0 .0 .0 .1) (at-match .match .rest .0 .0 .0 .1)
-    (at-match .match .rest .0 .0 .1) (at-match .match .rest .0 .1) (at-match .match .rest .1)))
+    (none-of-kinds (at-kind-of .kind-of .result) (at-match .match .rest)))
 
 same-length-37 : tie.Need-same-length-37
 same-length-37 c = search needs

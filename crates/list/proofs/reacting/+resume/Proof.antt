@@ -12,7 +12,7 @@ use Rattle.area.specs.inner.Rules.{product}
 use Rattle.area.proofs.Made.{made-need, made-cramped}
 use Rattle.list.specs.inner.Notes.{partAt}
 use Rattle.list.specs.inner.Joins.{roomFor}
-use Rattle.table.proofs.Places.{above-ten}
+use Rattle.table.proofs.Places.{none-of-kinds}
 use Rattle.list.proofs.Nodes.{not-known}
 use Rattle.list.proofs.Joins.{altered, beside-top, joined, standing, followed}
 use Rattle.list.proofs.Starts.{place-few, ready-at, child-signal, child-present, child-else, child-sequence, child-then, child-parallel, child-beside, child-loop, child-try, list-signal, list-try}
@@ -705,9 +705,7 @@ module _ (t : ℕ) where
       let past8 = at-kind-of .before .before .before .before .before .before in
       let s = past8 .before in
       absurd (not-known (s .args .nodes .now) (s .args .at) _ (s .pre .1 .1 .ready .known) (at-kind-of .kind-of .ensures)
-      (above-ten (at-kind-of .kind-of .result) (at-match .match .rest .0 .0 .0 .0 .0 .0 .0 .0 .0 .0 .1) (at-match .match .rest .0 .0 .0 .0 .0 .0 .0 .0 .0 .1) (at-match .match .rest .0 .0 .0 .0 .0 .0 .0 .0 .1)
-      (at-match .match .rest .0 .0 .0 .0 .0 .0 .0 .1) (at-match .match .rest .0 .0 .0 .0 .0 .0 .1) (at-match .match .rest .0 .0 .0 .0 .0 .1) (at-match .match .rest .0 .0 .0 .0 .1) (at-match .match .rest .0 .0 .0 .1)
-      (at-match .match .rest .0 .0 .1) (at-match .match .rest .0 .1) (at-match .match .rest .1)))
+      (none-of-kinds (at-kind-of .kind-of .result) (at-match .match .rest)))
 
   returns-17 : resume-lts.Need-returns-17 (claims t) (resume-at t) resume.Post
   returns-17 c =

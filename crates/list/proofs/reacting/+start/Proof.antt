@@ -13,7 +13,7 @@ use Rattle.area.specs.inner.Rules.{product}
 use Rattle.area.proofs.Made.{made-need, made-cramped}
 use Rattle.list.specs.inner.Notes.{partAt}
 use Rattle.list.specs.inner.Joins.{roomFor}
-use Rattle.table.proofs.Places.{above-ten}
+use Rattle.table.proofs.Places.{none-of-kinds}
 use Rattle.list.proofs.Nodes.{not-known}
 use Rattle.list.proofs.Joins.{altered, beside, beside-top, joined, followed-not, ending-small, followed-by}
 use Rattle.list.proofs.Starts.{place-few, emits-narrow, ready-at, child-signal, child-present, child-else, child-sequence, child-then, child-parallel, child-beside, child-loop, child-try, list-nothing, list-pause, list-gotopause, list-emit, list-exit, list-signal, list-loop, list-try, list-then, list-else, list-sequence, list-parallel}
@@ -627,9 +627,7 @@ module _ (t : ℕ) where
       let at-kind-of = at-match .before in
       let s = at-kind-of .before .before .before .before .before in
       absurd (not-known (s .args .nodes .now) (s .args .at) _ (s .pre .1 .1 .known) (at-kind-of .kind-of .ensures)
-      (above-ten (at-kind-of .kind-of .result) (at-match .match .rest .0 .0 .0 .0 .0 .0 .0 .0 .0 .0 .1) (at-match .match .rest .0 .0 .0 .0 .0 .0 .0 .0 .0 .1) (at-match .match .rest .0 .0 .0 .0 .0 .0 .0 .0 .1)
-      (at-match .match .rest .0 .0 .0 .0 .0 .0 .0 .1) (at-match .match .rest .0 .0 .0 .0 .0 .0 .1) (at-match .match .rest .0 .0 .0 .0 .0 .1) (at-match .match .rest .0 .0 .0 .0 .1) (at-match .match .rest .0 .0 .0 .1)
-      (at-match .match .rest .0 .0 .1) (at-match .match .rest .0 .1) (at-match .match .rest .1)))
+      (none-of-kinds (at-kind-of .kind-of .result) (at-match .match .rest)))
 
   returns-16 : start-lts.Need-returns-16 (claims t) (start-at t) start.Post
   returns-16 c =

@@ -11,7 +11,7 @@ use Rattle.esterel.specs.Codes.{codeOf, justAt, justCode}
 use Rattle.table.specs.Kinds.{kinds, kindOf, rowOf}
 use Rattle.table.specs.Reading.{operandOf}
 use Rattle.reach.specs.inner.Summaries.{outline, Summable}
-use Rattle.table.proofs.Places.{Node, above-ten}
+use Rattle.table.proofs.Places.{Node, none-of-kinds}
 use Rattle.reach.proofs.Notes.{open-none, open-leaf, open-one, open-two, found-same, room-notes, note-fits}
 use Rattle.reach.proofs.SummedNodes.{at-none, at-nothing, at-pause, at-gotopause, at-emit, at-exit, never-unknown, exit-level, enter-signal, enter-loop, enter-try, at-signal}
 use Rattle.reach.proofs.SummedNodes.{at-loop, at-try, present-splits, sequence-splits, parallel-splits, enter-first, enter-second, at-present, at-sequence, at-parallel}
@@ -106,10 +106,8 @@ module _ (t : ℕ) (e : summary-at-lts.After-kind-of (claims t) (summary-at-at t
   falls-by-one : start .args .left - 1 < t
   falls-by-one = omega (arith, start .pre .0, e .before .before .before .before .if1 .left)
 
-  -- none of the kinds 0 to 10
-  unknown : (kind ≡ 0 → ⊥) → (kind ≡ 1 → ⊥) → (kind ≡ 2 → ⊥) → (kind ≡ 3 → ⊥) → (kind ≡ 4 → ⊥) → (kind ≡ 5 → ⊥) → (kind ≡ 6 → ⊥) → (kind ≡ 7 → ⊥) → (kind ≡ 8 → ⊥)
-      → (kind ≡ 9 → ⊥) → (kind ≡ 10 → ⊥) → ⊥
-  unknown n0 n1 n2 n3 n4 n5 n6 n7 n8 n9 n10 = never-unknown summable kind (above-ten kind n0 n1 n2 n3 n4 n5 n6 n7 n8 n9 n10) (node kind refl)
+  unknown : 11 ≤ kind → ⊥
+  unknown above = never-unknown summable kind above (node kind refl)
 
 module _ (t : ℕ) where
   of-nothing-requires : summary-at-lts.Need-of-nothing-requires (claims t) (summary-at-at t) summary-at.Post
@@ -406,13 +404,13 @@ module _ (t : ℕ) where
   returns-13 c =
       let e = (c .before .before .before) in
       let m = c .before .before .match .rest in
-      absurd (unknown t e (m .0 .0 .0 .0 .0 .0 .0 .0 .0 .0 .1) (m .0 .0 .0 .0 .0 .0 .0 .0 .0 .1) (m .0 .0 .0 .0 .0 .0 .0 .0 .1) (m .0 .0 .0 .0 .0 .0 .0 .1) (m .0 .0 .0 .0 .0 .0 .1) (m .0 .0 .0 .0 .0 .1) (m .0 .0 .0 .0 .1) (m .0 .0 .0 .1) (m .0 .0 .1) (m .0 .1) (m .1))
+      absurd (unknown t e (none-of-kinds (kind t e) m))
 
   returns-14 : summary-at-lts.Need-returns-14 (claims t) (summary-at-at t) summary-at.Post
   returns-14 c =
       let e = (c .before .before .before) in
       let m = c .before .before .match .rest in
-      absurd (unknown t e (m .0 .0 .0 .0 .0 .0 .0 .0 .0 .0 .1) (m .0 .0 .0 .0 .0 .0 .0 .0 .0 .1) (m .0 .0 .0 .0 .0 .0 .0 .0 .1) (m .0 .0 .0 .0 .0 .0 .0 .1) (m .0 .0 .0 .0 .0 .0 .1) (m .0 .0 .0 .0 .0 .1) (m .0 .0 .0 .0 .1) (m .0 .0 .0 .1) (m .0 .0 .1) (m .0 .1) (m .1))
+      absurd (unknown t e (none-of-kinds (kind t e) m))
 
 pub +summary-at-spec : {M : Type 1} → statement M
 +summary-at-spec =

@@ -10,7 +10,7 @@ use borrow.Author.Needs.{needs}
 use borrow.Author.Tests.{leb-false}
 use borrow.Fn.Kinds.{In}
 use borrow.Fn.PlainCycle.{Measures, is, falls, and}
-use Rattle.table.proofs.Places.{Node, above-ten}
+use Rattle.table.proofs.Places.{Node, none-of-kinds}
 use Rattle.trim.specs.declared.descent.Around.{Around}
 use Rattle.trim.specs.inner.Parts.{Trimmable}
 use Rattle.trim.proofs.Parts.{sequence-fits, parallel-fits, loop-fits, try-fits}
@@ -134,10 +134,7 @@ module _ (t : ℕ) (c : trim-at-lts.At-match-rest (claims t) (trim-at-at t) trim
   unknown =
       let s = start t (c .before) in
       let k = c .before .kind-of .result in
-      let n5 = c .match .rest .0 .0 .0 .0 .0 in
-      let n10 = c .match .rest in
-      let n0 = n5 .0 .0 .0 .0 .0 in
-      let above = above-ten k (n0 .1) (n5 .0 .0 .0 .0 .1) (n5 .0 .0 .0 .1) (n5 .0 .0 .1) (n5 .0 .1) (n5 .1) (n10 .0 .0 .0 .0 .1) (n10 .0 .0 .0 .1) (n10 .0 .0 .1) (n10 .0 .1) (n10 .1) in
+      let above = none-of-kinds k (c .match .rest) in
       omega (arith, s .pre .1 .known (s .args .at), c .before .kind-of .ensures)
 
 -- at a present, once its else branch is trimmed

@@ -7,7 +7,7 @@ use mathlib.Core.Path.{_≡_, sym, ap, _∙_, subst}
 use native.Mathlib.Omega.{arith}
 use Prim.Native.Nat.{ℕ, _-_, _<_}
 use lib.ListN.{length, length-set}
-use Rattle.table.proofs.Places.{Node, above-ten}
+use Rattle.table.proofs.Places.{Node, none-of-kinds}
 use Rattle.trim.proofs.Walk.{there, not-there}
 use Rattle.trim.proofs.Marking.{AtNode, mark-none, mark-nothing, mark-pause, mark-gotopause, mark-emit, mark-exit, mark-signal, mark-loop, mark-kept}
 use Rattle.trim.proofs.Marking.{mark-present, mark-sequence, mark-parallel}
@@ -105,10 +105,7 @@ module _ (t : ℕ) (c : mark-at-lts.At-match-rest (claims t) (mark-at-at t) mark
   unknown =
       let s = start t (c .before) in
       let k = c .before .kind-of .result in
-      let n5 = c .match .rest .0 .0 .0 .0 .0 in
-      let n10 = c .match .rest in
-      let n0 = n5 .0 .0 .0 .0 .0 in
-      let above = above-ten k (n0 .1) (n5 .0 .0 .0 .0 .1) (n5 .0 .0 .0 .1) (n5 .0 .0 .1) (n5 .0 .1) (n5 .1) (n10 .0 .0 .0 .0 .1) (n10 .0 .0 .0 .1) (n10 .0 .0 .1) (n10 .0 .1) (n10 .1) in
+      let above = none-of-kinds k (c .match .rest) in
       omega (arith, s .pre .1 .2 (s .args .at), c .before .kind-of .ensures)
 
 module _ (t : ℕ) where
