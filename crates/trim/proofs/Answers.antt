@@ -31,7 +31,7 @@ use Rattle.trim.specs.declared.work.Part.{Part}
 use Rattle.trim.specs.declared.Trimmed.{Trimmed}
 use Rattle.trim.specs.declared.Trimmed.the-variants.{Refused, Accepted}
 use Rattle.trim.specs.Answers.{trimmedOutcome, trimFor, bufferAfter, trimIn, bufferIn, trimOf, bufferOf}
-use Rattle.trim.specs.inner.Root.{Ends, LaidOut, Fields, Finished}
+use Rattle.trim.specs.inner.Root.{Ends, LaidOut, EndFits, Finished}
 
 -- ---- where the trimmed statement stands
 
@@ -56,7 +56,7 @@ module _ (t old new : List ℕ) (c : Checked) (h : (checkedOutcome c ≡ checkOf
 
   module _ (n : ℕ) (e : c ≡ checked.Accepted n) where
     module _ (part : Part) (work : List ℕ) (E : Ends (trimmed (statementOf new)) part work) where
-      pub end-fields : length old ≡ 1024 → Known old → length work ≡ 1024 → Fields part work
+      pub end-fields : length old ≡ 1024 → Known old → length work ≡ 1024 → EndFits part work
       end-fields k known l =
           let q : Statement = trimmed (statementOf new) in
           let L = load-loaded t old new c h n e k known in
@@ -104,16 +104,16 @@ allowed-trimmed p v d room n bytes = go (ltb 1024 (size (trimmed p)) || ltb deep
         )
 
 -- the front of the buffer, as many bytes as the answer says
-abbrev pub front : List ℕ → List ℕ → ℕ → List ℕ
-front t out bytes = take bytes (bufferOf t out)
+abbrev pub writtenFront : List ℕ → List ℕ → ℕ → List ℕ
+writtenFront t out bytes = take bytes (bufferOf t out)
 
 pub record WrittenTable (t out : List ℕ) (n bytes : ℕ) : Type 0 where
   pub count : ℕ
   pub statement : Statement
   pub source : tableOf t ≡ holds count statement
-  pub bytes-are : front t out bytes ≡ write (trimmed statement)
-  pub reads : tableOf (front t out bytes) ≡ holds n (trimmed statement)
-  pub accepted-by-check : checkOf (front t out bytes) ≡ values (n ∷ [])
+  pub bytes-are : writtenFront t out bytes ≡ write (trimmed statement)
+  pub reads : tableOf (writtenFront t out bytes) ≡ holds n (trimmed statement)
+  pub accepted-by-check : checkOf (writtenFront t out bytes) ≡ values (n ∷ [])
 
 -- the trimmed table, where it is not refused, is accepted by check and reads as the trimmed statement
 pub trimmed-reads : (t out : List ℕ) (n bytes : ℕ) → trimOf t (length out) ≡ values (n ∷ bytes ∷ []) → WrittenTable t out n bytes
@@ -127,9 +127,9 @@ trimmed-reads t out n bytes = go (tableOf t) refl
         let (allowed, count, long) = allowed-trimmed p (a .valid) (a .deep) (length out) n bytes h in
         let left : bufferOf t out ≡ write (trimmed p) ++ drop (length (write (trimmed p))) out =
         ap (λ (T : Table). bufferIn T out) e ∙ ap (λ (v : Outcome). bufferAfter v (trimmed p) out) h in
-        let begins : front t out bytes ≡ write (trimmed p) =
+        let begins : writtenFront t out bytes ≡ write (trimmed p) =
         ap (take bytes) left ∙ take-at (write (trimmed p)) (drop (length (write (trimmed p))) out) bytes (sym long) in
-        let reads : tableOf (front t out bytes) ≡ holds n (trimmed p) =
+        let reads : tableOf (writtenFront t out bytes) ≡ holds n (trimmed p) =
         ap tableOf begins ∙ read-written (trimmed p) allowed ∙ ap (λ (k : ℕ). holds k (trimmed p)) (sym count) in
         record {
           count = m;

@@ -30,7 +30,7 @@ use Rattle.reach.specs.inner.Notes.{secondOf, endsOf, keptOf}
 use Rattle.table.proofs.Places.{Node, placed-node, placed-none}
 use Rattle.trim.proofs.Walk.{next-after}
 use Rattle.trim.proofs.Leaving.{ends-signal, ends-sequence, ends-parallel, ends-loop, ends-try, ends-branches}
-use Rattle.trim.proofs.Steps.{One, Two, note-ends, note-place, note-kept, one-signal, one-loop, one-try, two-present, two-sequence, two-parallel, trimmed-none, trimmed-leaf, trimmed-one, trimmed-two, trimmed-branches}
+use Rattle.trim.proofs.Steps.{NotedOne, NotedTwo, note-ends, note-place, note-kept, one-signal, one-loop, one-try, two-present, two-sequence, two-parallel, trimmed-none, trimmed-leaf, trimmed-one, trimmed-two, trimmed-branches}
 use Rattle.trim.proofs.Steps.{one-ready, second-ready, join-ready, join-room, else-room, branch-ready, present-room}
 
 module _ {R : ℕ} {xs notes : List ℕ} {at left : ℕ} {a : Around} {places work : List ℕ} {to : ℕ} (N : Trimmable R xs notes at left a places work to) where
@@ -150,13 +150,13 @@ module _ {R : ℕ} {xs notes : List ℕ} {at left : ℕ} {a : Around} {places wo
   abbrev first : Placed
   first = statementAt (left - 1) xs (at + 1)
 
-  pub the-signal : Node left xs at 5 → One R xs notes at left 5 (signal operand) (a .tries)
+  pub the-signal : Node left xs at 5 → NotedOne R xs notes at left 5 (signal operand) (a .tries)
   the-signal n = one-signal R xs notes at left (a .tries) (N .valid) (N .noted) n
 
-  pub the-loop : Node left xs at 9 → One R xs notes at left 9 loop (a .tries)
+  pub the-loop : Node left xs at 9 → NotedOne R xs notes at left 9 loop (a .tries)
   the-loop n = one-loop R xs notes at left (a .tries) (N .valid) (N .noted) n
 
-  pub the-try : Node left xs at 10 → One R xs notes at left 10 try (suc (a .tries))
+  pub the-try : Node left xs at 10 → NotedOne R xs notes at left 10 try (suc (a .tries))
   the-try n = one-try R xs notes at left (a .tries) (N .valid) (N .noted) n
 
   pub at-signal : Node left xs at 5 → {o : ℕ} → o ≡ operand → {z : Bool} {v r : Part} {places₁ work₁ work₂ : List ℕ}
@@ -255,17 +255,17 @@ module _ {R : ℕ} {xs notes : List ℕ} {at left : ℕ} {a : Around} {places wo
   abbrev second : Placed
   second = statementAt (left - 1) xs (first .next)
 
-  pub the-present : Node left xs at 6 → Two R xs notes at left 6 (present operand) (a .tries)
+  pub the-present : Node left xs at 6 → NotedTwo R xs notes at left 6 (present operand) (a .tries)
   the-present n = two-present R xs notes at left (a .tries) (N .valid) (N .noted) n
 
-  pub the-sequence : Node left xs at 7 → Two R xs notes at left 7 sequence (a .tries)
+  pub the-sequence : Node left xs at 7 → NotedTwo R xs notes at left 7 sequence (a .tries)
   the-sequence n = two-sequence R xs notes at left (a .tries) (N .valid) (N .noted) n
 
-  pub the-parallel : Node left xs at 8 → Two R xs notes at left 8 parallel (a .tries)
+  pub the-parallel : Node left xs at 8 → NotedTwo R xs notes at left 8 parallel (a .tries)
   the-parallel n = two-parallel R xs notes at left (a .tries) (N .valid) (N .noted) n
 
   -- the place of the second child is noted
-  pub at-second : {k : ℕ} {f : Statement → Statement → Statement} (o : Two R xs notes at left k f (a .tries)) → eqb k 10 ≡ false
+  pub at-second : {k : ℕ} {f : Statement → Statement → Statement} (o : NotedTwo R xs notes at left k f (a .tries)) → eqb k 10 ≡ false
       → {m : ℕ} → m ≡ secondOf (getD notes at 0) → {a′ : Around} {v : Part} {places₁ work₁ : List ℕ}
       → Done R (statementAt (left - 1) xs m) m (left - 1) a′ places work to v places₁ work₁
       → Done R second (first .next) (left - 1) a′ places work to v places₁ work₁
@@ -331,7 +331,7 @@ module _ {R : ℕ} {xs notes : List ℕ} {at left : ℕ} {a : Around} {places wo
       (at-second (the-present n) refl place Q) E P C)
 
   -- so the second child was trimmed, and the first comes
-  module _ {k : ℕ} {f : Statement → Statement → Statement} (n : Node left xs at k) (o : Two R xs notes at left k f (a .tries)) (plain : eqb k 10 ≡ false)
+  module _ {k : ℕ} {f : Statement → Statement → Statement} (n : Node left xs at k) (o : NotedTwo R xs notes at left k f (a .tries)) (plain : eqb k 10 ≡ false)
       {m : ℕ} (place : m ≡ secondOf (getD notes at 0)) {a′ : Around} {v : Part} {places₁ work₁ : List ℕ}
       (Q : Done R (statementAt (left - 1) xs m) m (left - 1) a′ places work to v places₁ work₁) where
     pub then-ready : Caught R places a (first .statement) → a′ .tries ≡ a .tries → Trimmable R xs notes (at + 1) (left - 1) a places₁ work₁ (v .from)

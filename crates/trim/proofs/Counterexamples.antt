@@ -80,17 +80,17 @@ unnamed-goes = refl
 -- ---- a present that only jumps reach: its branches stay, one after the other
 
 -- the first can end: the second stands in a try behind an exit
-pub else-guarded : trimmed (parallel (gotopause 1) (parallel (gotopause 2) (try (sequence (exit 1) (present 0 (pause 1) (pause 2))))))
+pub branch-guarded : trimmed (parallel (gotopause 1) (parallel (gotopause 2) (try (sequence (exit 1) (present 0 (pause 1) (pause 2))))))
     ≡ parallel (gotopause 1) (parallel (gotopause 2) (try (sequence (exit 1) (sequence (pause 1) (try (sequence (exit 1) (pause 2)))))))
 unfolding has only _union_ _intersect_ pauses pauseCount size depth codeOf labels none justEnded justAt justCode join minusZero throughTry hasLow
     notBelow noLowerThan maximum s d nextR reachFrom reach isNothing joinParts names endsAt shiftLevel shiftExits canEnd trimLoop trimSignal
     trimPresent trimTry trim trimmed
-else-guarded = refl
+branch-guarded = refl
 
 -- the first cannot end: no try
-pub else-free : trimmed (parallel (gotopause 1) (parallel (gotopause 2) (try (sequence (exit 1) (present 0 (sequence (pause 1) (exit 1)) (pause 2))))))
+pub branch-free : trimmed (parallel (gotopause 1) (parallel (gotopause 2) (try (sequence (exit 1) (present 0 (sequence (pause 1) (exit 1)) (pause 2))))))
     ≡ parallel (gotopause 1) (parallel (gotopause 2) (try (sequence (exit 1) (sequence (sequence (pause 1) (exit 1)) (pause 2)))))
 unfolding has only _union_ _intersect_ pauses pauseCount size depth codeOf labels none justEnded justAt justCode join minusZero throughTry hasLow
     notBelow noLowerThan maximum s d nextR reachFrom reach isNothing joinParts names endsAt shiftLevel shiftExits canEnd trimLoop trimSignal
     trimPresent trimTry trim trimmed
-else-free = refl
+branch-free = refl

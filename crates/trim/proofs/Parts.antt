@@ -24,7 +24,7 @@ use Rattle.table.specs.Writing.{nodes, node}
 use Rattle.table.proofs.Nodes.{depth-positive}
 use Rattle.trim.specs.declared.work.Part.{Part}
 use Rattle.trim.specs.inner.Levels.{wrapIf, guardedIf}
-use Rattle.trim.specs.inner.Parts.{part, partDepth, Puts, Stands, PartStands, WholeStands, heldWith, nothingAt, Fitting, Joins, LeafPut, Filled, Wrapped, PartsJoined, ElseClosed, PresentClosed}
+use Rattle.trim.specs.inner.Parts.{part, partDepth, Puts, NodesStand, PartStands, WholeStands, heldWith, nothingAt, Fitting, Joins, LeafPut, NothingFilled, Wrapped, PartsJoined, ElseClosed, PresentClosed}
 use Rattle.trim.proofs.Dropped.{join-first, join-both}
 
 -- ---- lists written from their end
@@ -126,10 +126,10 @@ depth-whole t e = rw e
 
 module _ (t : Statement) (work : List ℕ) (to : ℕ) (r : Part) (work′ : List ℕ) where
   whole-made : isNothing t ≡ false → WholeStands t work to r work′ → PartStands t work to r work′
-  whole-made e W = subst₂ (λ (l : List ℕ) (d : ℕ). Stands l d t work to r work′) (sym (part-whole t e)) (sym (depth-whole t e)) W
+  whole-made e W = subst₂ (λ (l : List ℕ) (d : ℕ). NodesStand l d t work to r work′) (sym (part-whole t e)) (sym (depth-whole t e)) W
 
   made-whole : isNothing t ≡ false → PartStands t work to r work′ → WholeStands t work to r work′
-  made-whole e M = subst₂ (λ (l : List ℕ) (d : ℕ). Stands l d t work to r work′) (part-whole t e) (depth-whole t e) M
+  made-whole e M = subst₂ (λ (l : List ℕ) (d : ℕ). NodesStand l d t work to r work′) (part-whole t e) (depth-whole t e) M
 
   made-none : PartStands t work to r work′ → r .from ≡ to → t ≡ nothing
   made-none M e = part-none t (omega (arith, M .puts .from-is))
@@ -204,7 +204,7 @@ leaf-none x named keep work to k = record { made = λ t L. rw k (made-nothing wo
 -- ---- nothing filled in
 
 pub filled-none : (work : List ℕ) (to : ℕ) (p : Part) (f : ℕ) (work′ : List ℕ) → 1 ≤ p .from → p .from ≡ to → PutAt work (p .from) (node 0 0) f work′
-    → Filled work to p (record { from = f; depth = 1; named = p .named }) work′
+    → NothingFilled work to p (record { from = f; depth = 1; named = p .named }) work′
 unfolding nodes depth part isNothing
 filled-none work to p f work′ h z e =
     record {
@@ -218,7 +218,7 @@ filled-none work to p f work′ h z e =
       shallow = omega arith;
     }
 
-pub filled-some : (work : List ℕ) (to : ℕ) (p : Part) → p .from ≢ to → Filled work to p p work
+pub filled-some : (work : List ℕ) (to : ℕ) (p : Part) → p .from ≢ to → NothingFilled work to p p work
 filled-some work to p n =
     record { made = λ t before w M. made-whole t before to p work (made-some t before to p work M n) M; near = omega arith; below = omega arith; shallow = omega arith }
 
@@ -229,7 +229,7 @@ unfolding wrapIf
 wrapped-not x z work to p e = record { made = λ f t before W w M. rw e M; near = omega arith; shallow = omega arith }
 
 pub wrapped-put : (x : ℕ) (z : Bool) (work : List ℕ) (to : ℕ) (p v : Part) (between : List ℕ) (f : ℕ) (work′ : List ℕ) → z ≡ true → 1 ≤ v .from
-    → Filled work to p v between → PutAt between (v .from) x f work′ → Wrapped x z work to p (record { from = f; depth = v .depth + 1; named = v .named }) work′
+    → NothingFilled work to p v between → PutAt between (v .from) x f work′ → Wrapped x z work to p (record { from = f; depth = v .depth + 1; named = v .named }) work′
 unfolding wrapIf
 wrapped-put x z work to p v between f work′ k h F e =
     record {
@@ -266,18 +266,18 @@ join-none : (f : Statement → Statement → Statement) (t : Statement) → join
 unfolding joinParts isNothing
 join-none f t = refl
 
-abbrev joined : Part → Part → ℕ → ℕ → Part
-joined p q f d = record { from = f; depth = d; named = bitOr (p .named) (q .named) }
+abbrev joinedPart : Part → Part → ℕ → ℕ → Part
+joinedPart p q f d = record { from = f; depth = d; named = bitOr (p .named) (q .named) }
 
 module _ (x : ℕ) (work : List ℕ) (to : ℕ) (p q : Part) where
-  pub joined-second : p .from ≡ q .from → PartsJoined x work to p q (joined p q (p .from) (max (p .depth) (q .depth))) work
+  pub joined-second : p .from ≡ q .from → PartsJoined x work to p q (joinedPart p q (p .from) (max (p .depth) (q .depth))) work
   unfolding part partDepth isNothing names
   joined-second z =
       record {
         made = λ f s t before between J w Q P.
             let n : s ≡ nothing = made-none s between (q .from) p work P z in
             let N : PartStands nothing between (q .from) p work = subst (λ (u : Statement). PartStands u between (q .from) p work) n P in
-            let r : Part = joined p q (p .from) (max (p .depth) (q .depth)) in
+            let r : Part = joinedPart p q (p .from) (max (p .depth) (q .depth)) in
             subst (λ (u : Statement). PartStands u before to r work) (sym (join-none f t) ∙ ap (λ (u : Statement). joinParts f u t) (sym n))
             (record {
               puts = puts-both [] (part t) before between work to (q .from) (p .from) w (Q .puts) (N .puts);
@@ -288,14 +288,14 @@ module _ (x : ℕ) (work : List ℕ) (to : ℕ) (p q : Part) where
         shallow = omega arith;
       }
 
-  pub joined-first : q .from ≡ to → PartsJoined x work to p q (joined p q (p .from) (max (p .depth) (q .depth))) work
+  pub joined-first : q .from ≡ to → PartsJoined x work to p q (joinedPart p q (p .from) (max (p .depth) (q .depth))) work
   unfolding part partDepth isNothing names
   joined-first z =
       record {
         made = λ f s t before between J w Q P.
             let n : t ≡ nothing = made-none t before to q between Q z in
             let N : PartStands nothing before to q between = subst (λ (u : Statement). PartStands u before to q between) n Q in
-            let r : Part = joined p q (p .from) (max (p .depth) (q .depth)) in
+            let r : Part = joinedPart p q (p .from) (max (p .depth) (q .depth)) in
             subst (λ (u : Statement). PartStands u before to r work)
             (sym (join-first f s t (ap isNothing n)))
             (record {
@@ -308,7 +308,7 @@ module _ (x : ℕ) (work : List ℕ) (to : ℕ) (p q : Part) where
       }
 
   pub joined-put : (f : ℕ) (work′ : List ℕ) → 1 ≤ p .from → p .from ≢ q .from → q .from ≢ to → PutAt work (p .from) x f work′
-      → PartsJoined x work to p q (joined p q f (max (p .depth) (q .depth) + 1)) work′
+      → PartsJoined x work to p q (joinedPart p q f (max (p .depth) (q .depth) + 1)) work′
   joined-put f work′ h m n e =
       record {
         made = λ g s t before between J w Q P.
@@ -316,7 +316,7 @@ module _ (x : ℕ) (work : List ℕ) (to : ℕ) (p q : Part) where
             let b : isNothing t ≡ false = made-some t before to q between Q n in
             let U = made-whole s between (q .from) p work a P in
             let T = made-whole t before to q between b Q in
-            let r : Part = joined p q f (max (p .depth) (q .depth) + 1) in
+            let r : Part = joinedPart p q f (max (p .depth) (q .depth) + 1) in
             subst (λ (u : Statement). PartStands u before to r work′) (sym (join-both g s t a b))
             (whole-made (g s t) before to r work′ (J .some s t) (record {
               puts = subst (λ (l : List ℕ). Puts l before to f work′) (sym (J .nodes-are s t))
@@ -355,7 +355,7 @@ unfolding guardedIf wrapIf
 guard-some t e = rw e
 
 module _ (started z : Bool) (work : List ℕ) (to : ℕ) (q : Part) where
-  pub else-whole : started ≡ true → (r : Part) (work′ : List ℕ) → Filled work to q r work′ → ElseClosed started z work to q r work′
+  pub else-whole : started ≡ true → (r : Part) (work′ : List ℕ) → NothingFilled work to q r work′ → ElseClosed started z work to q r work′
   else-whole e r work′ F =
       rw e (record { made = λ t before w M. F .made t before w M; near = F .near; shallow = omega (arith, F .shallow) })
 
@@ -414,7 +414,7 @@ module _ (started : Bool) (S : ℕ) (work : List ℕ) (to : ℕ) (p q : Part) wh
       })
 
   pub present-whole : started ≡ true → (v : Part) (work₁ : List ℕ) (f own : ℕ) (work′ : List ℕ) → 1 ≤ v .from → ((n : ℕ) → has own n ≡ eqb n S)
-      → Filled work (q .from) p v work₁ → PutAt work₁ (v .from) (node 6 S) f work′
+      → NothingFilled work (q .from) p v work₁ → PutAt work₁ (v .from) (node 6 S) f work′
       → PresentClosed started S work to p q (record { from = f; depth = max (v .depth) (q .depth) + 1; named = bitOr (bitOr (v .named) (q .named)) own }) work′
   unfolding nodes isNothing depth names
   present-whole e v work₁ f own work′ h o F A =

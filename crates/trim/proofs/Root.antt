@@ -32,9 +32,9 @@ use Rattle.trim.specs.declared.work.Part.{Part}
 use Rattle.trim.specs.declared.Trimmed.the-variants.{Refused, Accepted}
 use Rattle.trim.specs.inner.Levels.{levelOut, trimmedIn}
 use Rattle.trim.specs.inner.Marking.{Marks}
-use Rattle.trim.specs.inner.Parts.{part, PartStands, Filled, Trimmable, Done}
+use Rattle.trim.specs.inner.Parts.{part, PartStands, NothingFilled, Trimmable, Done}
 use Rattle.trim.specs.Answers.{trimmedOutcome, trimFor, bufferAfter}
-use Rattle.trim.specs.inner.Root.{Lent, Ends, Fields, Finished}
+use Rattle.trim.specs.inner.Root.{Lent, Ends, EndFits, Finished}
 use Rattle.trim.proofs.Levels.{map-closed}
 use Rattle.trim.proofs.Refused.{no-exit, no-name, no-level}
 
@@ -131,7 +131,7 @@ module _ {xs places work notes endings : List ℕ} {found : Settled} (A : AtRest
         let f = A .loaded .few in
         (omega (arith, part-size result), omega arith)
 
-    pub root-ends : {v : Part} {work₂ : List ℕ} → Filled work₁ 4096 p v work₂ → Ends result v work₂
+    pub root-ends : {v : Part} {work₂ : List ℕ} → NothingFilled work₁ 4096 p v work₂ → Ends result v work₂
     root-ends {v} {work₂} F =
         let (all, long, is) = all-places 3072 1024 work (A .work-is) in
         let W = F .made result work (omega arith) made in
@@ -193,7 +193,7 @@ module _ (p : Part) (work out : List ℕ) where
       slice-is : slice ≡ drop first work
       slice-is = take-all (length work - first) (drop first work) (omega (arith, length-drop first work))
 
-      pub finish-writable : Fields p work → Writable slice (length out)
+      pub finish-writable : EndFits p work → Writable slice (length out)
       finish-writable F =
           let count : length (drop first work) ≡ 4096 - p .from = length-drop first work ∙ (omega (arith, F .long, F .within)) in
           rw slice-is (record { few = omega arith; fields = F .fields held; fits = rw count (omega arith) })

@@ -23,7 +23,7 @@ use Rattle.reach.proofs.Notes.{noted-node, second-note, ends-note}
 use Rattle.trim.specs.inner.Notes.{trimNote, TrimNote}
 use Rattle.trim.specs.inner.Parts.{part, PartStands, nothingAt, Leaf, Wraps, Joins, LeafPut, Wrapped, PartsJoined, Branch, branchIf, presentIf, ElseClosed, PresentClosed, Caught, Trimmable, Done}
 use Rattle.trim.proofs.Parts.{made-nothing}
-use Rattle.trim.proofs.Trimming.{Low, trimmed-places, trimmed-nothing}
+use Rattle.trim.proofs.Trimming.{LowPlaces, trimmed-places, trimmed-nothing}
 use Rattle.trim.proofs.Notes.{try-kept}
 
 -- ---- a node and its children
@@ -36,13 +36,13 @@ module _ (R : ℕ) (xs notes : List ℕ) (at left : ℕ) where
   second = statementAt (left - 1) xs (first .next)
 
   -- a node of kind k with one child, which stands in `inside` try statements
-  pub record One (k : ℕ) (f : Statement → Statement) (inside : ℕ) : Type 0 where
+  pub record NotedOne (k : ℕ) (f : Statement → Statement) (inside : ℕ) : Type 0 where
     pub is : statementAt left xs at ≡ placed (f (first .statement)) (first .next)
     pub valid : Valid inside (first .statement)
     pub noted : Noted (TrimNote R notes) xs (left - 1) (at + 1)
     pub note-is : getD notes at 0 ≡ trimNote R k first
 
-  pub record Two (k : ℕ) (f : Statement → Statement → Statement) (inside : ℕ) : Type 0 where
+  pub record NotedTwo (k : ℕ) (f : Statement → Statement → Statement) (inside : ℕ) : Type 0 where
     pub is : statementAt left xs at ≡ placed (f (first .statement) (second .statement)) (second .next)
     pub valid : Valid inside (first .statement)
     pub valid-second : Valid inside (second .statement)
@@ -62,53 +62,53 @@ module _ (R : ℕ) (xs notes : List ℕ) (at left : ℕ) where
     pub note-place : secondOf (getD notes at 0) ≡ first .next
     note-place = ap secondOf note-plain ∙ second-note R first
 
-  pub note-kept : {inside : ℕ} → One 10 try inside → (b : Bool) → keptOf (getD notes at 0) b ≡ endsAt 0 (trim R b (first .statement))
+  pub note-kept : {inside : ℕ} → NotedOne 10 try inside → (b : Bool) → keptOf (getD notes at 0) b ≡ endsAt 0 (trim R b (first .statement))
   unfolding trimNote
   note-kept o b = ap (λ (n : ℕ). keptOf n b) (o .note-is) ∙ try-kept R first b
 
   module _ (tries : ℕ) (v : Valid tries (statementAt left xs at .statement)) (h : Noted (TrimNote R notes) xs left at) where
     one-node : (k : ℕ) (f : Statement → Statement) (inside : ℕ)
         → statementAt left xs at ≡ placed (f (first .statement)) (first .next) → (Valid tries (f (first .statement)) → Valid inside (first .statement))
-        → (getD notes at 0 ≡ trimNote R k first) × Noted (TrimNote R notes) xs (left - 1) (at + 1) → One k f inside
+        → (getD notes at 0 ≡ trimNote R k first) × Noted (TrimNote R notes) xs (left - 1) (at + 1) → NotedOne k f inside
     one-node k f inside e g ns = record { is = e; valid = g (subst (λ (p : Placed). Valid tries (p .statement)) e v); noted = ns .1; note-is = ns .0 }
 
     two-node : (k : ℕ) (f : Statement → Statement → Statement)
         → statementAt left xs at ≡ placed (f (first .statement) (second .statement)) (second .next)
         → (Valid tries (f (first .statement) (second .statement)) → Valid tries (first .statement) × Valid tries (second .statement))
-        → (getD notes at 0 ≡ trimNote R k first) × Noted (TrimNote R notes) xs (left - 1) (at + 1) × Noted (TrimNote R notes) xs (left - 1) (first .next) → Two k f tries
+        → (getD notes at 0 ≡ trimNote R k first) × Noted (TrimNote R notes) xs (left - 1) (at + 1) × Noted (TrimNote R notes) xs (left - 1) (first .next) → NotedTwo k f tries
     two-node k f e g ns =
         let vs = g (subst (λ (p : Placed). Valid tries (p .statement)) e v) in
         record { is = e; valid = vs .0; valid-second = vs .1; noted = ns .1; noted-second = ns .2; note-is = ns .0 }
 
-    pub one-signal : Node left xs at 5 → One 5 (signal (operandOf (getD xs at 0))) tries
+    pub one-signal : Node left xs at 5 → NotedOne 5 (signal (operandOf (getD xs at 0))) tries
     unfolding placeKind kindOf kinds rowOf Valid
     one-signal n = one-node 5 (signal (operandOf (getD xs at 0))) tries (placed-node n) (λ w. w .1) (noted-node (TrimNote R notes) n h)
 
-    pub one-loop : Node left xs at 9 → One 9 loop tries
+    pub one-loop : Node left xs at 9 → NotedOne 9 loop tries
     unfolding placeKind kindOf kinds rowOf Valid
     one-loop n = one-node 9 loop tries (placed-node n) (λ w. w) (noted-node (TrimNote R notes) n h)
 
-    pub one-try : Node left xs at 10 → One 10 try (suc tries)
+    pub one-try : Node left xs at 10 → NotedOne 10 try (suc tries)
     unfolding placeKind kindOf kinds rowOf Valid
     one-try n = one-node 10 try (suc tries) (placed-node n) (λ w. w) (noted-node (TrimNote R notes) n h)
 
-    pub two-present : Node left xs at 6 → Two 6 (present (operandOf (getD xs at 0))) tries
+    pub two-present : Node left xs at 6 → NotedTwo 6 (present (operandOf (getD xs at 0))) tries
     unfolding placeKind kindOf kinds rowOf Valid
     two-present n = two-node 6 (present (operandOf (getD xs at 0))) (placed-node n) (λ w. (w .1, w .2)) (noted-node (TrimNote R notes) n h)
 
-    pub two-sequence : Node left xs at 7 → Two 7 sequence tries
+    pub two-sequence : Node left xs at 7 → NotedTwo 7 sequence tries
     unfolding placeKind kindOf kinds rowOf Valid
     two-sequence n = two-node 7 sequence (placed-node n) (λ w. (w .0, w .1)) (noted-node (TrimNote R notes) n h)
 
-    pub two-parallel : Node left xs at 8 → Two 8 parallel tries
+    pub two-parallel : Node left xs at 8 → NotedTwo 8 parallel tries
     unfolding placeKind kindOf kinds rowOf Valid
     two-parallel n = two-node 8 parallel (placed-node n) (λ w. (w .0, w .1)) (noted-node (TrimNote R notes) n h)
 
 -- ---- what the steps make
 
 -- up to n the places are as they were
-abbrev Same : ℕ → List ℕ → List ℕ → Type 0
-Same n places places′ = (i : ℕ) → i ≤ n → getD places′ i 0 ≡ getD places i 0
+abbrev SamePlaces : ℕ → List ℕ → List ℕ → Type 0
+SamePlaces n places places′ = (i : ℕ) → i ≤ n → getD places′ i 0 ≡ getD places i 0
 
 module _ (R at left : ℕ) (a : Around) (places work : List ℕ) (to : ℕ) where
   pub trimmed-none : (n : ℕ) → at ≤ n → Done R (placed nothing n) at left a places work to (nothingAt to) places work
@@ -137,7 +137,7 @@ module _ (R at left : ℕ) (a : Around) (places work : List ℕ) (to : ℕ) wher
 
   module _ (some : left ≢ 0) (w : to ≤ 4096) where
     pub trimmed-one : (g : Statement → Statement) (x : ℕ) (z : Bool) (s : Statement) (p : Placed) (a′ : Around) (places₁ places₂ work₁ work₂ : List ℕ) (v r : Part)
-        → trimmedIn R places a s ≡ wrapIf g z (trimmedIn R places₁ a′ (p .statement)) → Same (a .tries) places places₂ → length places₁ ≡ length places
+        → trimmedIn R places a s ≡ wrapIf g z (trimmedIn R places₁ a′ (p .statement)) → SamePlaces (a .tries) places places₂ → length places₁ ≡ length places
         → Wraps g x → Done R p (at + 1) (left - 1) a′ places₁ work to v places₂ work₁ → Wrapped x z work₁ to v r work₂
         → Done R (placed s (p .next)) at left a places work to r places₂ work₂
     trimmed-one g x z s p a′ places₁ places₂ work₁ work₂ v r is same long G P W =
@@ -158,7 +158,7 @@ module _ (R at left : ℕ) (a : Around) (places work : List ℕ) (to : ℕ) wher
         → Done R q (p .next) (left - 1) a′ places work to v places₁ work₁ → Done R p (at + 1) (left - 1) a places₁ work₁ (v .from) u places₂ work₂
         → PartsJoined x work₂ to u v r work₃ → Done R (placed s (q .next)) at left a places work to r places₂ work₃
     trimmed-two g x s p q a′ places₁ places₂ work₁ work₂ work₃ u v r tries is G Q P J =
-        let same : Same (a .tries) places places₁ = λ i l. Q .same i (omega arith) in
+        let same : SamePlaces (a .tries) places places₁ = λ i l. Q .same i (omega arith) in
         let room : v .from + 4 * (at + 1) ≤ u .from + 4 * p .next = P .room in
         let room′ : to + 4 * p .next ≤ v .from + 4 * q .next = Q .room in
         let near : u .from ≤ r .from + 1 = J .near in
@@ -182,7 +182,7 @@ module _ (R at left : ℕ) (a : Around) (places work : List ℕ) (to : ℕ) wher
         → Done R p (at + 1) (left - 1) a places₁ work₂ (e .from) u places₂ work₃ → PresentClosed (a .started) S work₃ to u e r work₄
         → Done R (placed (present S (p .statement) (q .statement)) (q .next)) at left a places work to r places₂ work₄
     trimmed-branches z S p q a′ places₁ places₂ work₁ work₂ work₃ work₄ u v e r tries is Q E P C =
-        let same : Same (a .tries) places places₁ = λ i l. Q .same i (omega arith) in
+        let same : SamePlaces (a .tries) places places₁ = λ i l. Q .same i (omega arith) in
         let room : e .from + 4 * (at + 1) ≤ u .from + 4 * p .next = P .room in
         let room′ : to + 4 * p .next ≤ v .from + 4 * q .next = Q .room in
         let near : v .from ≤ e .from + cond (a .started) 1 3 = E .near in
@@ -210,8 +210,8 @@ module _ (R at left : ℕ) (a : Around) (places work : List ℕ) (to : ℕ) wher
 -- ---- what the calls ask
 
 module _ {R : ℕ} {xs notes : List ℕ} {at left : ℕ} {a : Around} {places work : List ℕ} {to : ℕ} (N : Trimmable R xs notes at left a places work to) (some : left ≢ 0) where
-  pub one-ready : {k : ℕ} {f : Statement → Statement} {inside : ℕ} → One R xs notes at left k f inside → (a′ : Around) (places′ : List ℕ) → a′ .tries ≡ inside
-      → a′ .tries ≤ a .tries + 1 → a′ .kept ≤ a .kept + 1 → length places′ ≡ length places → Low places′ a′
+  pub one-ready : {k : ℕ} {f : Statement → Statement} {inside : ℕ} → NotedOne R xs notes at left k f inside → (a′ : Around) (places′ : List ℕ) → a′ .tries ≡ inside
+      → a′ .tries ≤ a .tries + 1 → a′ .kept ≤ a .kept + 1 → length places′ ≡ length places → LowPlaces places′ a′
       → Caught R places′ a′ (statementAt (left - 1) xs (at + 1) .statement) → Trimmable R xs notes (at + 1) (left - 1) a′ places′ work to
   one-ready o a′ places′ e t l wide low caught =
       let next : statementAt left xs at .next ≡ statementAt (left - 1) xs (at + 1) .next = ap (λ (p : Placed). p .next) (o .is) in
@@ -229,7 +229,7 @@ module _ {R : ℕ} {xs notes : List ℕ} {at left : ℕ} {a : Around} {places wo
         caught = caught;
       }
 
-  module _ {k : ℕ} {f : Statement → Statement → Statement} (o : Two R xs notes at left k f (a .tries)) where
+  module _ {k : ℕ} {f : Statement → Statement → Statement} (o : NotedTwo R xs notes at left k f (a .tries)) where
     abbrev mid : ℕ
     mid = statementAt (left - 1) xs (at + 1) .next
 
@@ -278,7 +278,7 @@ module _ {R : ℕ} {xs notes : List ℕ} {at left : ℕ} {a : Around} {places wo
   ends-in : {t : Statement} {work₁ work₂ : List ℕ} {to₁ : ℕ} {v : Part} → PartStands t work₁ to₁ v work₂ → v .from ≤ to₁
   ends-in M = let e = M .puts .from-is in omega arith
 
-  pub one-room : {k : ℕ} {f : Statement → Statement} {inside : ℕ} → One R xs notes at left k f inside → {a′ : Around} {places₁ places₂ work₁ : List ℕ} {v : Part}
+  pub one-room : {k : ℕ} {f : Statement → Statement} {inside : ℕ} → NotedOne R xs notes at left k f inside → {a′ : Around} {places₁ places₂ work₁ : List ℕ} {v : Part}
       → Done R (statementAt (left - 1) xs (at + 1)) (at + 1) (left - 1) a′ places₁ work to v places₂ work₁
       → (2 ≤ v .from) × (v .from ≤ 4096) × (v .depth ≤ 200)
   one-room o P =
@@ -291,7 +291,7 @@ module _ {R : ℕ} {xs notes : List ℕ} {at left : ℕ} {a : Around} {places wo
       let e = ends-in (P .made) in
       (omega arith, omega arith, omega arith)
 
-  module _ {k : ℕ} {f : Statement → Statement → Statement} (o : Two R xs notes at left k f (a .tries)) {a′ : Around} {places₁ work₁ : List ℕ} {v : Part}
+  module _ {k : ℕ} {f : Statement → Statement → Statement} (o : NotedTwo R xs notes at left k f (a .tries)) {a′ : Around} {places₁ work₁ : List ℕ} {v : Part}
       (Q : Done R (statementAt (left - 1) xs (mid o)) (mid o) (left - 1) a′ places work to v places₁ work₁) where
     second-room : 4 * mid o ≤ v .from + 4 * at
     second-room = let r = N .room in let s = Q .room in omega (arith, next-is o)

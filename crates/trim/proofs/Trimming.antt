@@ -16,8 +16,8 @@ use Rattle.trim.proofs.Levels.{map-nothing, map-names, map-same, map-ra
 use Rattle.trim.proofs.Dropped.{join-first, join-both, ending-something}
 
 -- places are known up to the tries around
-abbrev pub Low : List ℕ → Around → Type 0
-Low places a = (i : ℕ) → i ≤ a .tries → getD places i 0 ≤ a .kept
+abbrev pub LowPlaces : List ℕ → Around → Type 0
+LowPlaces places a = (i : ℕ) → i ≤ a .tries → getD places i 0 ≤ a .kept
 
 -- ---- parts that are nothing
 
@@ -111,7 +111,7 @@ guarded-present f inner z p q same some = go (isNothing (mapExits inner 0 q)) re
         branch false same some =
             map-join f sequence (λ x y. refl) p q ∙ ap (joinParts sequence (mapExits f 0 p)) (map-same f inner same 0 q)
 
-module _ (R : ℕ) (places : List ℕ) (a : Around) (low : Low places a) where
+module _ (R : ℕ) (places : List ℕ) (a : Around) (low : LowPlaces places a) where
   one-more : (z : Bool) (n : ℕ) → 1 ≤ n → cond z (suc (levelOut places a n)) (levelOut places a n) ≡ levelOut places (inGuard z a) n
   unfolding levelOut
   one-more true n h = let l = low (a .tries + 1 - n) (omega arith) in omega arith
@@ -171,24 +171,24 @@ trimmed-places R places places′ a p h =
 -- ---- what stands around the children
 
 module _ (a : Around) (z : Bool) where
-  pub else-started : a .started ≡ true → a ≡ inElse z a
+  pub in-else-started : a .started ≡ true → a ≡ inElse z a
   unfolding inElse
-  else-started h = rw h
+  in-else-started h = rw h
 
-  pub else-free : a .started ≡ false → z ≡ false → a ≡ inElse z a
+  pub in-else-free : a .started ≡ false → z ≡ false → a ≡ inElse z a
   unfolding inElse
-  else-free h k = ap (λ (b : Bool). cond b a (inGuard false a)) (sym h) ∙ ap (λ (b : Bool). cond (a .started) a (inGuard b a)) (sym k)
+  in-else-free h k = ap (λ (b : Bool). cond b a (inGuard false a)) (sym h) ∙ ap (λ (b : Bool). cond (a .started) a (inGuard b a)) (sym k)
 
-  pub else-guarded : a .started ≡ false → z ≡ true → record { started = a .started; tries = a .tries; kept = a .kept + 1 } ≡ inElse z a
+  pub in-else-guarded : a .started ≡ false → z ≡ true → record { started = a .started; tries = a .tries; kept = a .kept + 1 } ≡ inElse z a
   unfolding inElse
-  else-guarded h k = ap (λ (b : Bool). cond b a (inGuard true a)) (sym h) ∙ ap (λ (b : Bool). cond (a .started) a (inGuard b a)) (sym k)
+  in-else-guarded h k = ap (λ (b : Bool). cond b a (inGuard true a)) (sym h) ∙ ap (λ (b : Bool). cond (a .started) a (inGuard b a)) (sym k)
 
 -- the places of the tries around the body of a try
 module _ (places : List ℕ) (a : Around) (fit : a .tries + 1 < length places) where
   pub places-same : (i : ℕ) → i ≤ a .tries → getD (placesIn a places) i 0 ≡ getD places i 0
   places-same i l = getD-set-other places (a .tries + 1) i (a .kept) 0 (omega arith)
 
-  pub places-low : Low places a → (z : Bool) → Low (placesIn a places) (inTry z a)
+  pub places-low : LowPlaces places a → (z : Bool) → LowPlaces (placesIn a places) (inTry z a)
   places-low low z i l = go (ℕ-discrete i (a .tries + 1))
     where
       more : (z : Bool) → a .kept ≤ cond z (a .kept + 1) (a .kept)

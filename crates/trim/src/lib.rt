@@ -20,7 +20,7 @@ ghost use Rattle.esterel.specs.Trimming.{trimmed};
 ghost use Rattle.table.specs.Outcomes.{numberOf};
 ghost use Rattle.table.specs.inner.Places.{statementOf, Known, Loaded};
 ghost use Rattle.trim.specs.Answers.{trimmedOutcome, trimOf, bufferOf};
-ghost use Rattle.trim.specs.inner.Root.{Lent, LaidOut, Fields, Finished};
+ghost use Rattle.trim.specs.inner.Root.{Lent, LaidOut, EndFits, Finished};
 
 // "12 the trimmed table has over 1,024 nodes or depth over 60; 13 the output buffer is shorter than the trimmed table."
 const TOO_LARGE: u8 = 12;
@@ -94,7 +94,7 @@ fn trim_nodes(
 
 // The answer for the statement at the end of the work area, whose table is written where it fits.
 fn finish(work: &[u16], part: Part, out: &mut [u8]) -> Trimmed
-    requires { ⌜ Fields part (now work) ⌝ }
+    requires { ⌜ EndFits part (now work) ⌝ }
     ensures { λ r. ⌜ Finished (now (work .entry)) part (now (out .entry)) r (now (out .exit)) ⌝ }
 {
     let from = part.from;

@@ -7,7 +7,7 @@ ghost use mathlib.Core.Bool.{true, cond};
 ghost use Prim.Native.Nat.{_-_, _≤_, _<_};
 ghost use Rattle.sets.specs.Set.{has};
 ghost use Rattle.table.specs.Writing.{node};
-ghost use Rattle.trim.specs.inner.Parts.{heldWith, nothingAt, refusedAt, Fitting, LeafPut, Filled, Wrapped, PartsJoined, ElseClosed, PresentClosed};
+ghost use Rattle.trim.specs.inner.Parts.{heldWith, nothingAt, refusedAt, Fitting, LeafPut, NothingFilled, Wrapped, PartsJoined, ElseClosed, PresentClosed};
 
 // Where the trimmed statement ends. Places are counted down from here; a node of the source takes at most four.
 pub const END: usize = 4096;
@@ -122,7 +122,7 @@ pub fn put_exit(work: &mut [u16; table::MOST_NODES], to: usize, keep: bool, leve
 // Nothing gets its node where a statement has to stand.
 pub fn fill(work: &mut [u16; table::MOST_NODES], p: Part, to: usize) -> Part
     requires { ⌜ (1 ≤ p .from) × (p .from ≤ 4096) ⌝ }
-    ensures { λ r. ⌜ Filled (now (work .entry)) to p r (now (work .exit)) ⌝ }
+    ensures { λ r. ⌜ NothingFilled (now (work .entry)) to p r (now (work .exit)) ⌝ }
 {
     let from = p.from;
     if from == to {

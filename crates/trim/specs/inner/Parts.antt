@@ -36,17 +36,17 @@ pub record Puts (l work : List ℕ) (to from : ℕ) (work′ : List ℕ) : Type 
   pub put : (all : List ℕ) → length all ≡ 4096 → drop 3072 all ≡ work → work′ ≡ drop 3072 (take from all ++ (l ++ drop to all))
   pub from-is : from + length l ≡ to
 
-pub record Stands (l : List ℕ) (deep : ℕ) (t : Statement) (work : List ℕ) (to : ℕ) (r : Part) (work′ : List ℕ) : Type 0 where
+pub record NodesStand (l : List ℕ) (deep : ℕ) (t : Statement) (work : List ℕ) (to : ℕ) (r : Part) (work′ : List ℕ) : Type 0 where
   pub puts : Puts l work to (r .from) work′
   pub depth-is : r .depth ≡ deep
   pub names-are : (S : ℕ) → has (r .named) S ≡ names S t
 
 -- the statement as a part, and as a whole statement, of one node at least
 abbrev pub PartStands : Statement → List ℕ → ℕ → Part → List ℕ → Type 0
-PartStands t = Stands (part t) (partDepth t) t
+PartStands t = NodesStand (part t) (partDepth t) t
 
 abbrev pub WholeStands : Statement → List ℕ → ℕ → Part → List ℕ → Type 0
-WholeStands t = Stands (nodes t) (depth t) t
+WholeStands t = NodesStand (nodes t) (depth t) t
 
 abbrev pub nothingAt : ℕ → Part
 nothingAt to = record { from = to; depth = 0; named = 0 }
@@ -96,7 +96,7 @@ pub record LeafPut (x named : ℕ) (keep : Bool) (work : List ℕ) (to : ℕ) (r
   pub shallow : r .depth ≤ 1
 
 -- a part that is nothing gets its node
-pub record Filled (work : List ℕ) (to : ℕ) (p r : Part) (work′ : List ℕ) : Type 0 where
+pub record NothingFilled (work : List ℕ) (to : ℕ) (p r : Part) (work′ : List ℕ) : Type 0 where
   pub made : (t : Statement) (before : List ℕ) → to ≤ 4096 → PartStands t before to p work → WholeStands t before to r work′
   pub near : p .from ≤ r .from + 1
   pub below : r .from ≤ p .from

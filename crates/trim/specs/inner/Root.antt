@@ -34,7 +34,7 @@ pub record LaidOut (q : Statement) (laid : Laid) (work : List ℕ) : Type 0 wher
   pub ends : Ends q part work
 
 -- nodes at the end of the work area that fit their fields
-pub record Fields (part : Part) (work : List ℕ) : Type 0 where
+pub record EndFits (part : Part) (work : List ℕ) : Type 0 where
   pub within : part .from ≤ 4096
   pub some : part .from ≢ 0
   pub long : length work ≡ 1024
