@@ -109,6 +109,10 @@ plain-through (at l) = refl
 plain-through (above zero) = refl
 plain-through (above (suc n)) = refl
 
+pub none-through : throughTry none ≡ none
+unfolding throughTry none has
+none-through = refl
+
 -- `higher / 8 * 4` holds each code above 2, one lower, and nothing else
 pub has-lowered : (m x : ℕ) → has (m / 8 * 4) (suc (suc x)) ≡ has m (suc (suc (suc x)))
 unfolding has

@@ -5,7 +5,7 @@ use mathlib.Core.Bool.{true, not}
 use Prim.Native.Nat.{ℕ, _^_, _<_}
 use native.Mathlib.Decide.{decLt, ℕ-discrete}
 use native.Mathlib.Omega.{arith}
-use Rattle.sets.specs.Set.{has, only, _union_, _minus_, _without_, Within}
+use Rattle.sets.specs.Set.{has, only, _union_, _without_, Within}
 use Rattle.sets.proofs.Booleans.{or-cases, and-cases, clash}
 use Rattle.sets.proofs.Members.{has-empty, has-union, has-minus, has-only-equal, has-without-same, has-without-other, fits, past-width}
 use Rattle.esterel.specs.Statement.{Statement}

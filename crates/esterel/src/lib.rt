@@ -30,9 +30,9 @@ pub fn through_try(code: Code) -> Code
 {
     let k = code.0;
     match k {
-        0 => Code(0),
-        1 => Code(1),
-        2 => Code(0),
+        ENDED => Code(ENDED),
+        PAUSED => Code(PAUSED),
+        2 => Code(ENDED),
         _ => Code(k - 1),
     }
 }

@@ -7,8 +7,8 @@ use Prim.Native.Nat.{ℕ, zero, suc}
 use lib.Dec.{ltb}
 use Rattle.sets.specs.Set.{_intersect_}
 use Rattle.esterel.specs.Statement.{Statement, pauses}
-use Rattle.esterel.specs.Reactions.{resumed, Reaction}
-use Rattle.esterel.specs.Listing.{listing, crowded, nesting}
+use Rattle.esterel.specs.Reactions.{Reaction}
+use Rattle.esterel.specs.Listing.{listing, nesting}
 use Rattle.esterel.proofs.Ignored.{agree-intersect, list-agree, crowded-agree}
 use Rattle.table.specs.Reading.{Table, tableOf}
 use Rattle.table.specs.Reading as table

@@ -1,17 +1,17 @@
 -- The list of a resumed statement, from the lists of its children. A statement without a label of the state has the empty
 -- list and needs no other, so it is not looked into.
 use mathlib.Core.Path.{_≡_, refl, sym, ap, ap₂, _∙_}
-use mathlib.Core.Bool.{Bool, true, false, cond, _&&_}
-use mathlib.Core.List.{List, [], _∷_}
+use mathlib.Core.Bool.{Bool, true, false, cond, _&&_, and-false}
+use mathlib.Core.List.{List, []}
 use mathlib.Core.Option.{none, some}
-use Prim.Native.Nat.{ℕ, _+_, _-_, _≤_, _<_}
+use Prim.Native.Nat.{ℕ, _+_, _≤_}
 use native.Mathlib.Omega.{arith}
 use native.Mathlib.Decide.{ℕ-discrete}
 use lib.Bits.{bitAnd, and-zero-r}
 use lib.Dec.{eqb}
 use lib.ListN.{length, getD}
 use borrow.Author.Tests.{eq-eqb, ne-eqb}
-use Rattle.sets.specs.Set.{has, only, _union_, _intersect_, _without_}
+use Rattle.sets.specs.Set.{has, only, _intersect_}
 use Rattle.sets.proofs.Members.{test-apart, has-intersect, has-only-other, has-empty, ext}
 use Rattle.esterel.specs.Statement.{Statement, nothing, pause, gotopause, emit, exit, present, sequence, parallel, loop, pauses}
 use Rattle.esterel.specs.Reactions.{start, resumed, Reaction}
@@ -43,10 +43,6 @@ meets-one X l h = go (has X l) refl
     none-there : has X l ≡ false → (x : ℕ) → Dec (l ≡ x) → has (X intersect only l) x ≡ has 0 x
     none-there e x (yes d) = has-intersect X (only l) x ∙ ap (λ b. b && has (only l) x) (ap (has X) (sym d) ∙ e) ∙ sym (has-empty x)
     none-there e x (no d) = has-intersect X (only l) x ∙ ap (λ b. has X x && b) (has-only-other l x d) ∙ and-false (has X x) ∙ sym (has-empty x)
-      where
-        and-false : (b : Bool) → (b && false) ≡ false
-        and-false true = refl
-        and-false false = refl
 
     go : (b : Bool) → has X l ≡ b → b ≡ true
     go true e = refl

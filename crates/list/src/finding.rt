@@ -7,7 +7,7 @@ use crate::reacting::start;
 use table::Checked;
 use table::MOST_NODES;
 ghost use mathlib.Core.Path.{_≡_};
-ghost use Prim.Native.Nat.{_+_, _*_, _≤_};
+ghost use Prim.Native.Nat.{_*_, _≤_};
 ghost use lib.ListN.{length};
 ghost use Rattle.table.specs.Reading.{tableOf};
 ghost use Rattle.table.specs.inner.Places.{statementOf, Known};
@@ -16,9 +16,6 @@ ghost use Rattle.list.specs.inner.Capped.{capped};
 ghost use Rattle.list.specs.inner.Notes.{Counted, Resumable, Copied};
 ghost use Rattle.list.specs.Answers.{stateOf, listFor, listIn};
 ghost use Rattle.list.specs.inner.Finding.{Finds};
-
-// The most signal statements inside one another.
-const MOST_NESTED: u8 = 12;
 
 // The words of an area that is never too small.
 const LARGE: usize = 7940;
@@ -133,7 +130,7 @@ fn find_marked(
     if nest == marking::REFUSED {
         return Answer::Refused(table::NO_KIND);
     }
-    if MOST_NESTED < nest {
+    if marking::MOST_NESTED < nest {
         return Answer::Refused(14);
     }
     let n = reactions_in(nodes, ends, pauses, assumed as u64, mark, labels, area);

@@ -10,8 +10,11 @@ ghost use lib.ListN.{length, getD};
 ghost use Rattle.table.specs.inner.Places.{Known};
 ghost use Rattle.list.specs.inner.Notes.{endIn, nestedOnce, Room, NotesPut, NotedNone, NotedBody, NotedSignal, NotedTwo, NotesFrom};
 
-// "over 12 signal statements inside one another": the first nesting that is too deep stands for all that are.
-pub const TOO_NESTED: u8 = 13;
+// "over 12 signal statements inside one another"
+pub const MOST_NESTED: u8 = 12;
+
+// The first nesting that is too deep stands for all that are.
+pub const TOO_NESTED: u8 = MOST_NESTED + 1;
 
 // The nesting that is noted of a node of a kind that there is not, and of all statements around it.
 pub const REFUSED: u8 = 255;
@@ -41,7 +44,7 @@ fn pauses_at(pauses: &[u64], at: usize) -> u64
     if at < pauses.len() { pauses[at] } else { 0 }
 }
 
-// The nesting with one signal statement more around.
+// The nesting with one signal statement more around; the first that is too deep stays.
 fn nested_once(nest: u8) -> u8
     ensures { λ r. ⌜ r ≡ nestedOnce nest ⌝ }
 {
@@ -130,12 +133,12 @@ fn note_at(
     ensures { λ _. ⌜ NotesFrom at (length (now (ends .entry))) (now (nodes .entry)) (now (ends .exit)) (now (nests .exit)) (now (pauses .exit)) ⌝ }
 {
     let node = nodes[at];
-    let kind = kind_of(node);
-    let label = Label(operand_of(node));
-    let own = sets::singleton(label.0);
-    match kind {
+    match kind_of(node) {
         table::NOTHING => note_none(ends, nests, pauses, at, 0),
-        table::PAUSE => note_none(ends, nests, pauses, at, own),
+        table::PAUSE => {
+            let label = Label(operand_of(node));
+            note_none(ends, nests, pauses, at, sets::singleton(label.0))
+        }
         table::GOTOPAUSE => note_none(ends, nests, pauses, at, 0),
         table::EMIT => note_none(ends, nests, pauses, at, 0),
         table::EXIT => note_none(ends, nests, pauses, at, 0),

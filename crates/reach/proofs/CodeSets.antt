@@ -2,7 +2,7 @@
 -- words stand for. Each law compares the three parts of a set.
 use mathlib.Core.Path.{_≡_, refl, sym, ap, ap₂, _∙_}
 use mathlib.Core.Logic.{_≢_, _⊎_, inl, inr}
-use mathlib.Core.Bool.{Bool, true, false, cond, not, _&&_, _||_}
+use mathlib.Core.Bool.{Bool, true, false, cond, not, _&&_, _||_, and-true, and-false}
 use Prim.Native.Nat.{ℕ, zero, suc, _+_, _-_, _*_, _/_, _%_, _^_, _≤_, _<_}
 use native.Mathlib.Nat.{mod-eq-of-lt, one-mul, pow-suc, mul-comm, div-div-eq-div-mul, div-mul-le-self}
 use native.Mathlib.Omega.{arith}
@@ -125,14 +125,6 @@ unfolding followedBy minusZero
 stops K K′ h = parts h refl refl ∙ sym (ap (λ (z : Bool). join (minusZero K) (cond z K′ none)) h ∙ join-none (minusZero K))
 
 -- ---- the maximum: the members of a that are no lower than some member of m
-pub and-true : (b : Bool) → (b && true) ≡ b
-and-true true = refl
-and-true false = refl
-
-pub and-false : (b : Bool) → (b && false) ≡ false
-and-false true = refl
-and-false false = refl
-
 zero-shift : (p : ℕ) → 0 / p * p ≡ 0
 zero-shift p = let h = div-mul-le-self 0 p in omega arith
 

@@ -2,7 +2,7 @@
 -- labels of a set.
 use mathlib.Core.Path.{_≡_, refl, sym, ap, ap₂, _∙_, subst}
 use mathlib.Core.Logic.{_≢_, _⊎_, inl, inr, ⊎-elim}
-use mathlib.Core.Bool.{Bool, true, false, cond, not, _&&_, _||_}
+use mathlib.Core.Bool.{Bool, true, false, cond, not, _&&_, _||_, and-true, and-false}
 use mathlib.Core.List.{List}
 use Prim.Native.Nat.{ℕ, _+_, _<_}
 use native.Mathlib.Decide.{ℕ-discrete}
@@ -17,7 +17,7 @@ use Rattle.esterel.specs.Codes.{Codes, throughTry}
 use Rattle.reach.specs.declared.codes.CodeSet.{CodeSet}
 use Rattle.reach.specs.inner.CodeSets.{codesOf}
 use Rattle.reach.specs.inner.Summaries.{resumedFrom, storedFor, Changed, LoweredEach, LabelsFrom, Follows, outline}
-use Rattle.reach.proofs.CodeSets.{words, and-true, and-false}
+use Rattle.reach.proofs.CodeSets.{words}
 
 -- ---- Storing
 module _ (kept : List ℕ) (l : ℕ) (a : CodeSet) where

@@ -11,7 +11,7 @@ use Rattle.sets.proofs.Booleans.{or-neither, clash}
 use Rattle.sets.proofs.Members.{has-empty, has-union, has-only, has-only-other}
 use Rattle.esterel.specs.Statement.{Statement, nothing, pause, gotopause, emit, exit, signal, present, sequence, parallel, loop, try, pauses}
 use Rattle.esterel.specs.Codes.{Codes, none, justEnded, justAt, join, minusZero, throughTry, s, d}
-use Rattle.esterel.proofs.Codes.{join-none, none-join, followed, s-sequence, d-sequence, d-loop}
+use Rattle.esterel.proofs.Codes.{join-none, none-join, none-through, followed, s-sequence, d-sequence, d-loop}
 use Rattle.table.specs.inner.Places.{Placed, placed}
 use Rattle.reach.specs.declared.summary.Summary.{Summary}
 use Rattle.reach.specs.inner.CodeSets.{codesOf, followedBy}
@@ -21,10 +21,6 @@ use Rattle.reach.proofs.CodeSets.{goes-on, stops, and-true, and-false}
 none-followed : (S : Codes) → followedBy none S ≡ none
 unfolding followedBy join minusZero none _union_
 none-followed S = refl
-
-none-through : throughTry none ≡ none
-unfolding throughTry none has
-none-through = refl
 
 pub d-followed : (R : ℕ) (p q : Statement) → d R (sequence p q) ≡ join (followedBy (d R p) (s q)) (d R q)
 unfolding followedBy followed

@@ -19,7 +19,7 @@ fn place_of(code: Code) -> u16
     requires { ⌜ code .0 ≢ 1 ⌝ }
     ensures { λ r. ⌜ r ≡ placeOf (code .0) ⌝ }
 {
-    if code.0 == 0 { 0 } else { code.0 - 1 }
+    if code.0 == esterel::ENDED { 0 } else { code.0 - 1 }
 }
 
 pub fn just_ended() -> CodeSet
@@ -27,7 +27,7 @@ pub fn just_ended() -> CodeSet
 {
     CodeSet {
         labels: 0,
-        codes: 1 << place_of(Code(0)),
+        codes: 1 << place_of(Code(esterel::ENDED)),
     }
 }
 

@@ -5,6 +5,12 @@ use libc::STDOUT_FILENO;
 use reach::Reached;
 use trim::Trimmed;
 
+// The bytes of the longest table.
+const LONGEST: usize = 1282;
+
+// A label is below this.
+const LABELS: u8 = 64;
+
 // A word and a number.
 fn print_number(word: &[u8], number: u64) {
     io::write_all(STDOUT_FILENO, word);
@@ -19,7 +25,7 @@ fn print_refused(refusal: u8) {
 // The labels of the set, rising.
 fn print_labels(set: u64) {
     io::write_all(STDOUT_FILENO, b"labels");
-    for label in 0u8..64 {
+    for label in 0u8..LABELS {
         if sets::contains(set, label) {
             print_number(b" ", label as u64);
         }
@@ -49,8 +55,7 @@ fn report(table: &[u8]) {
         print_refused(reach::refusal(reached));
         return;
     };
-    // Room for the longest table, so that 13 is not given.
-    let mut out = [0u8; 1282];
+    let mut out = [0u8; LONGEST];
     let trimmed = trim::trim(table, &mut out);
     let Trimmed::Accepted(after) = trimmed else {
         print_refused(trim::refusal(trimmed));
@@ -61,7 +66,7 @@ fn report(table: &[u8]) {
 
 fn main() {
     // One byte more than the longest table: check refuses it as it would refuse any more.
-    let mut input = [0u8; 1283];
+    let mut input = [0u8; LONGEST + 1];
     let length = io::read_full(STDIN_FILENO, &mut input);
     report(&input[..length]);
 }

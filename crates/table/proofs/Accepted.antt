@@ -17,7 +17,7 @@ use Rattle.table.specs.Reading.{Reading, refused, read, withOne, withTwo
 use Rattle.table.specs.Writing.{node, nodes}
 use Rattle.table.proofs.Nodes.{kind-node, operand-node, length-nodes}
 use Rattle.table.proofs.Cutting.{length-nodesOf}
-use Rattle.table.proofs.Header.{Headed, never-accepted, header-accepted}
+use Rattle.table.proofs.Header.{Headed, header-accepted}
 use Rattle.table.proofs.Faults as sound
 use Rattle.table.proofs.Faults.{Faultless, fault-none}
 

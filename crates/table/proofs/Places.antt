@@ -10,7 +10,7 @@ use native.Mathlib.Nat.{zero-add, le-trans}
 use native.Mathlib.Decide.{decLt}
 use native.Mathlib.Omega.{arith}
 use lib.Dec.{ltb}
-use lib.ListN.{length, drop, getD, replicate, length-drop}
+use lib.ListN.{length, drop, getD, length-drop}
 use lib.Seq.{drop-cons, drop-drop, drop-append-seam}
 use borrow.Author.Tests.{lt-ltb, le-ltb, ltb-true}
 use Rattle.sets.proofs.Booleans.{by-cond}

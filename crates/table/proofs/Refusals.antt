@@ -1,6 +1,6 @@
 -- The refusals of check lie between 1 and 11, so that 0 is never one: an entry for C that returns 0 has accepted. By the tests of
 -- the header, and by induction on the depth that is left for the nodes.
-use mathlib.Core.Path.{_≡_, refl, sym, ap, _∙_, subst}
+use mathlib.Core.Path.{_≡_, refl, ap, _∙_, subst}
 use mathlib.Core.Bool.{Bool, true, false, cond, not, _&&_, _||_}
 use mathlib.Core.List.{List, [], _∷_}
 use Prim.Native.Nat.{ℕ, zero, suc, _≤_}

@@ -14,10 +14,10 @@ use Rattle.esterel.specs.Statement.{Statement, nothing, pause, gotopause, emit,
 use Rattle.table.specs.Bits.{bits, Below}
 use Rattle.table.specs.Reading.{Reading, readFrom, lengthOf, headerOf, deepest, Table, holds, wholeOf, tableAfter, tableOf}
 use Rattle.table.specs.Writing.{node, nodes, Allowed, nodeBits, writeNodes, write}
-use Rattle.table.specs.inner.Making.{Writable}
 use Rattle.table.proofs.Bits.{below-cons, below-append, below-bytesOf}
 use Rattle.table.proofs.Fields.{length-writeNodes, below-fields, headed-written, crowded-written, nodes-written, headed-accepted, nodes-again}
 use Rattle.table.proofs.Nodes.{length-nodes}
+use Rattle.table.proofs.Places.{size-positive}
 use Rattle.table.proofs.Accepted.{read-faithful, accepted}
 use Rattle.table.proofs.ReadBack.{Ranged, Reread, back, refused, read-back}
 
@@ -42,20 +42,6 @@ below-nodes (sequence p q) r = two-below (node 7 0) p q (omega arith) (below-nod
 below-nodes (parallel p q) r = two-below (node 8 0) p q (omega arith) (below-nodes p (r .0)) (below-nodes q (r .1))
 below-nodes (loop p) r = below-cons 1024 (node 9 0) (nodes p) (omega arith) (below-nodes p r)
 below-nodes (try p) r = below-cons 1024 (node 10 0) (nodes p) (omega arith) (below-nodes p r)
-
-size-positive : (p : Statement) → 1 ≤ size p
-unfolding size
-size-positive nothing = omega arith
-size-positive (pause l) = omega arith
-size-positive (gotopause l) = omega arith
-size-positive (emit S) = omega arith
-size-positive (exit d) = omega arith
-size-positive (signal S p) = omega arith
-size-positive (present S p q) = omega arith
-size-positive (sequence p q) = omega arith
-size-positive (parallel p q) = omega arith
-size-positive (loop p) = omega arith
-size-positive (try p) = omega arith
 
 pub valid-ranged : (tries : ℕ) (p : Statement) → Valid tries p → Ranged p
 unfolding Valid Ranged

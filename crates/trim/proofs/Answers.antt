@@ -20,7 +20,7 @@ use Rattle.table.specs.Outcomes.{Outcome, refusal, values, numberOf}
 use Rattle.table.specs.Reading.{Table, refused, holds, tableOf, checkedOutcome, checkIn, checkOf, deepest}
 use Rattle.table.specs.inner.Loading.{loadedOf}
 use Rattle.table.specs.inner.Places.{statementOf, Known}
-use Rattle.table.specs.Writing.{nodes, write, Allowed}
+use Rattle.table.specs.Writing.{write, Allowed}
 use Rattle.table.proofs.Accepted.{accepted}
 use Rattle.table.proofs.Loading.{load-refuses, load-holds, load-statement, load-loaded}
 use Rattle.table.proofs.Refusals.{table-refusals, zero-accepted}

@@ -16,9 +16,9 @@ use Rattle.sets.proofs.Booleans.{or-left, or-right, clash}
 use Rattle.sets.proofs.Members.{has-empty}
 use Rattle.esterel.specs.Statement.{Statement, nothing, pause, gotopause, emit, exit, signal, present, sequence, parallel, loop, try, depth, Valid}
 use Rattle.esterel.specs.Trimming.{isNothing, names, joinParts, canEnd, trimSignal, trim, endsAt}
-use Rattle.table.specs.Kinds.{Kind, kinds, kindOf, rowOf}
+use Rattle.table.specs.Kinds.{kinds, kindOf, rowOf}
 use Rattle.table.specs.Reading.{operandOf}
-use Rattle.table.specs.inner.Places.{Placed, placed, placeKind, statementAt}
+use Rattle.table.specs.inner.Places.{Placed, placeKind, statementAt}
 use Rattle.table.specs.Writing.{nodes, node}
 use Rattle.trim.specs.declared.descent.Around.{Around}
 use Rattle.trim.specs.declared.work.Part.{Part}

@@ -7,6 +7,7 @@ use Rattle.sets.specs.Set.{has, _union_}
 use Rattle.sets.proofs.Booleans.{clash, not-true}
 use Rattle.esterel.specs.Statement.{Statement, nothing, pause, gotopause, emit, exit, signal, present, sequence, parallel, loop, try}
 use Rattle.esterel.specs.Codes.{Codes, none, justEnded, join, minusZero, throughTry, s, d}
+use Rattle.esterel.proofs.Codes.{none-through}
 use Rattle.esterel.proofs.Trimming.{is-nothing, by-join, by-signal, by-present, by-try}
 use Rattle.esterel.specs.Trimming.{isNothing, joinParts, shiftExits, canEnd, trimLoop, trimSignal, trimPresent, trimTry, trim}
 
@@ -43,10 +44,6 @@ shift-nothing f c (try p) = refl
 join-none : join none none ≡ none
 unfolding join none _union_
 join-none = refl
-
-through-none : throughTry none ≡ none
-unfolding throughTry none has
-through-none = refl
 
 -- ---- which statements are nothing
 
@@ -108,7 +105,7 @@ module _ (R : ℕ) where
           → cond z (minusZero (join (d R p) (s p))) (d R p) ≡ none
       go true ih h = clash h refl
       go false ih h = ih h
-  nothing-none (try p) h = ap throughTry (nothing-none p (try-nothing (trim R false p) h)) ∙ through-none
+  nothing-none (try p) h = ap throughTry (nothing-none p (try-nothing (trim R false p) h)) ∙ none-through
 
   pub ending-something : (p : Statement) → canEnd R false p ≡ true → isNothing (trim R false p) ≡ false
   unfolding canEnd none

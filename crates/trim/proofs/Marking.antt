@@ -1,6 +1,6 @@
 -- Marking at a node, by the number of its children: the exits left in it, its note, and that nothing else is written.
 use mathlib.Core.Path.{_≡_, refl, sym, ap, ap₂, _∙_, subst}
-use mathlib.Core.Logic.{_≢_, _⊎_, inl, inr}
+use mathlib.Core.Logic.{_≢_, _⊎_}
 use mathlib.Core.Bool.{Bool, true, false, cond, not, _||_}
 use mathlib.Core.List.{List}
 use Prim.Native.Nat.{ℕ, suc, _+_, _-_, _*_, _/_, _%_, _^_, _≤_, _<_}
@@ -13,11 +13,11 @@ use lib.ListN.{length, getD, set, length-set}
 use lib.Seq.{getD-set-same, getD-set-other}
 use Rattle.sets.specs.Set.{has, only}
 use Rattle.sets.proofs.Booleans.{or-false, eqb-differ}
-use Rattle.sets.proofs.Members.{bit, has-empty}
+use Rattle.sets.proofs.Members.{has-empty}
 use Rattle.esterel.specs.Statement.{Statement, nothing, pause, gotopause, emit, exit, signal, present, sequence, parallel, loop, try}
 use Rattle.esterel.specs.Codes.{s, d}
 use Rattle.esterel.specs.Trimming.{endsAt, canEnd, trim}
-use Rattle.table.specs.Kinds.{Kind, kinds, kindOf, rowOf}
+use Rattle.table.specs.Kinds.{kinds, kindOf, rowOf}
 use Rattle.table.specs.Reading.{operandOf}
 use Rattle.table.specs.inner.Places.{Placed, placed, placeKind, statementAt}
 use Rattle.reach.specs.inner.Notes.{Noted, Opens, noteWith, noteOf, secondOf, endsOf, withResumed, withKept}

@@ -4,7 +4,7 @@ use mathlib.Core.Path.{_≡_, refl, sym, ap₂, _∙_}
 use mathlib.Core.Bool.{false, _||_}
 use Prim.Native.Nat.{ℕ, suc, _/_, _≤_, _<_}
 use native.Mathlib.Omega.{arith}
-use lib.Dec.{eqb, ltb}
+use lib.Dec.{ltb}
 use borrow.Author.Tests.{ne-eqb, le-ltb}
 use Rattle.sets.specs.Set.{has}
 use Rattle.sets.proofs.Members.{has-empty, ext}

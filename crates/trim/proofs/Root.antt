@@ -26,6 +26,7 @@ use Rattle.reach.specs.declared.Settled.{Settled}
 use Rattle.reach.specs.declared.Analysed.{Analysed}
 use Rattle.reach.specs.declared.Analysed.the-variants.{Rest}
 use Rattle.reach.specs.inner.Rounds.{Settleable, Rests}
+use Rattle.reach.proofs.Answers.{rest-same}
 use Rattle.trim.specs.declared.descent.Around.{Around}
 use Rattle.trim.specs.declared.marks.Exits.{Exits}
 use Rattle.trim.specs.declared.work.Part.{Part}
@@ -76,10 +77,7 @@ module _ {xs places work notes endings : List ℕ} {found : Settled} (A : AtRest
   result = trimmed (statementOf xs)
 
   reached : R ≡ reach (statementOf xs) .set
-  reached = ap (λ (f : Settled). f .set) (same (sym (A .is) ∙ A .rests .reaches .rest)) ∙ A .rests .reaches .set
-    where
-      same : {f g : Settled} → Rest f ≡ Rest g → f ≡ g
-      same e = cc
+  reached = ap (λ (f : Settled). f .set) (rest-same (sym (A .is) ∙ A .rests .reaches .rest)) ∙ A .rests .reaches .set
 
   valid : Valid 0 result
   valid = valid-trimmed (statementOf xs) (A .loaded .shallow) (A .loaded .valid)

@@ -13,7 +13,6 @@ use Rattle.esterel.specs.Trimming.{joinParts, endsAt, canEnd, trim}
 use Rattle.table.specs.Kinds.{kinds, kindOf, rowOf}
 use Rattle.table.specs.Reading.{operandOf}
 use Rattle.table.specs.inner.Places.{Placed, placed, placeKind, statementAt}
-use Rattle.table.specs.Writing.{nodes}
 use Rattle.trim.specs.declared.descent.Around.{Around}
 use Rattle.trim.specs.declared.work.Part.{Part}
 use Rattle.trim.specs.inner.Levels.{trimmedIn, wrapIf}
@@ -21,7 +20,7 @@ use Rattle.reach.specs.inner.Notes.{Noted, noteOf, secondOf, endsOf, keptOf}
 use Rattle.table.proofs.Places.{Node, placed-node, next-forward}
 use Rattle.reach.proofs.Notes.{noted-node, second-note, ends-note}
 use Rattle.trim.specs.inner.Notes.{trimNote, TrimNote}
-use Rattle.trim.specs.inner.Parts.{part, PartStands, nothingAt, Leaf, Wraps, Joins, LeafPut, Wrapped, PartsJoined, Branch, branchIf, presentIf, ElseClosed, PresentClosed, Caught, Trimmable, Done}
+use Rattle.trim.specs.inner.Parts.{PartStands, nothingAt, Leaf, Wraps, Joins, LeafPut, Wrapped, PartsJoined, Branch, branchIf, presentIf, ElseClosed, PresentClosed, Caught, Trimmable, Done}
 use Rattle.trim.proofs.Parts.{made-nothing}
 use Rattle.trim.proofs.Trimming.{LowPlaces, trimmed-places, trimmed-nothing}
 use Rattle.trim.proofs.Notes.{try-kept}

@@ -129,8 +129,9 @@ pub fn round_trips(amount: Amount) -> Outcome {
     Ok(())
 }
 
-/// What the papers say of the analysis: the codes of reactions are in s and d, R is a fixed point,
-/// and the rounds do not pass the pauses plus 1.
+/// What the papers say of the analysis: a round over R gives R again, the rounds do not pass the
+/// pauses plus 1, and the codes of reactions are in s and d. Reactions are asked of programs that
+/// need little work and of states whose lists are all of 64 reactions at most.
 pub fn analysis(amount: Amount) -> Outcome {
     let mut random = Random(21);
     for _ in 0..amount.of(6_000) {
@@ -140,6 +141,10 @@ pub fn analysis(amount: Amount) -> Outcome {
         let (r, i) = rounds(&p);
         same("rounds", i <= p.pauses().count_ones() as usize + 1, true)?;
         same("R among the pauses", r.iter().all(|label| p.pauses() >> label & 1 == 1), true)?;
+        let (started, again) = (s(&p), d(&r, &p));
+        let reached = |label: &u8| started.contains(&One(*label)) || again.contains(&One(*label));
+        let next: Labels = (1..64).filter(|l| p.pauses() >> l & 1 == 1).filter(reached).collect();
+        same("a round over R", next, r)?;
         if work(&p) > 500 {
             continue;
         }
@@ -164,8 +169,9 @@ pub fn analysis(amount: Amount) -> Outcome {
 }
 
 /// Trimmed programs have the same reactions along runs of up to six steps, by the rules alone, under
-/// the first eight sets of their signals and from five new states a step at most; a trimmed table
-/// that is not refused is accepted by check.
+/// the first eight sets of their signals and from five new states a step at most, but for programs
+/// that need much work and lists of over 64 reactions; a trimmed table that is not refused is accepted
+/// by check.
 pub fn trimmed_runs(amount: Amount) -> Outcome {
     let mut random = Random(22);
     for _ in 0..amount.of(6_000) {

@@ -411,6 +411,7 @@ pub fn random_tables(t: &mut Trial, amount: Amount) -> Outcome {
 
 /// Steps a table and its trimmed table along common runs, up to eight steps, and compares the two
 /// listings under the first 16 sets of its signals. Each step goes on from six new states at most.
+/// Programs that need much work are passed over.
 pub fn runs(t: &mut Trial, amount: Amount) -> Outcome {
     let mut random = Random(11);
     for _ in 0..amount.of(10_000) {

@@ -41,7 +41,7 @@ fn resumed_presents(random: &mut Random) -> Statement {
     Try(sequence(jumps, uneven(random, blocks, &joins)).into())
 }
 
-/// Programs whose trimmed form ends up around 1,024 nodes, and around depth 60.
+/// Check's edge tables, and programs whose trimmed form ends up around 1,024 nodes, and around depth 60.
 pub fn edges(t: &mut Trial, amount: Amount) -> Outcome {
     for table in edge_tables() {
         t.trim(&table, AMPLE)?;

@@ -1,5 +1,4 @@
 -- A reaction goes, or stays changed: case by case.
-use Prim.Native.Nat.{_/_}
 use mathlib.Core.Path.{sym, _∙_}
 use borrow.Author.Tests.{not-true, not-false}
 use Rattle.sets.specs.Set.{only}

@@ -1,5 +1,4 @@
 -- The emitted sets are the high bits of the two words together.
-use mathlib.Core.Path.{_∙_}
 use lib.Bits.{or-lt}
 use Rattle.area.proofs.Products.{join-sequence, join-parallel}
 use native.Mathlib.Omega.{arith}

@@ -1,5 +1,4 @@
 -- Either list alone, or both.
-use Prim.Native.Nat.{_+_}
 use mathlib.Core.List.{_++_}
 use Rattle.area.proofs.Merges.{merged-large, merged-none, merged-same, merged-cramped, merged-small}
 use native.Mathlib.Omega.{arith}

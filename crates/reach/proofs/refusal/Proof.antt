@@ -1,5 +1,4 @@
 -- `reach::refusal` meets its contract.
-use mathlib.Core.Path.{ap, sym}
 use borrow.Author.Needs.{needs}
 use Rattle.table.specs.Outcomes.{numberOf}
 use Rattle.reach.specs.Answers.{reachedOutcome}

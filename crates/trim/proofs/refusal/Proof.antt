@@ -1,5 +1,4 @@
 -- `trim::refusal` meets its contract.
-use mathlib.Core.Path.{ap, sym}
 use borrow.Author.Needs.{needs}
 use Rattle.table.specs.Outcomes.{numberOf}
 use Rattle.trim.specs.Answers.{trimmedOutcome}

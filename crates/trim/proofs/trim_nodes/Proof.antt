@@ -1,14 +1,10 @@
 -- `trim_nodes` meets its contract: reach's notes, completed and marked, are what trimming asks, and no pass meets a node of
 -- no kind.
 use denote.Ref.{now}
-use mathlib.Core.List.{List}
 use mathlib.Core.Path.{refl, sym, _∙_}
-use Prim.Native.Nat.{ℕ}
 use borrow.Author.Needs.{needs}
 use Rattle.sets.proofs.Booleans.{clash}
 use Rattle.reach.proofs.Answers.{never-refused}
-use Rattle.table.specs.inner.Places.{Loaded}
-use Rattle.trim.specs.inner.Root.{Lent}
 use Rattle.trim.proofs.Root.{root-settles, AtRest, root-markable, root-marked, root-trimmable, root-named, root-room, root-ends}
 use Rattle.trim.proofs.trim_nodes.Statement.{statement}
 use Rattle.trim.proofs.trim_nodes.Tie as tie

@@ -1,7 +1,7 @@
 -- Kind by kind.
 use native.Mathlib.Omega.{arith}
-use Prim.Native.Nat.{ℕ, _%_, _^_, _<_}
-use mathlib.Core.Path.{sym, ap, _∙_, subst}
+use Prim.Native.Nat.{ℕ, _%_, _^_}
+use mathlib.Core.Path.{sym, ap, _∙_}
 use lib.ListN.{getD}
 use Rattle.sets.specs.Set.{only}
 use Rattle.table.proofs.Places.{none-of-kinds}
@@ -29,7 +29,7 @@ singleton-requires c κs = search needs
 note-none-requires : tie.Need-note-none-requires
 note-none-requires c κs =
     let past6 = c .before .before .before .before .before .before in
-    let s = past6 .before .before .before .before .before in
+    let s = past6 .before .before .before in
     has-room (s .pre .3) (s .pre .0) (s .pre .1)
 
 note-none-requires-2 : tie.Need-note-none-requires-2
@@ -41,67 +41,67 @@ note-none-requires-2 c κs =
 note-none-requires-3 : tie.Need-note-none-requires-3
 note-none-requires-3 c κs =
     let past6 = c .before .before .before .before .before .before in
-    let s = past6 .before .before .before .before .before in
+    let s = past6 .before .before .before in
     has-room (s .pre .3) (s .pre .0) (s .pre .1)
 
 note-none-requires-4 : tie.Need-note-none-requires-4
 note-none-requires-4 c κs =
     let past6 = c .before .before .before .before .before .before in
-    let s = past6 .before .before .before .before .before in
+    let s = past6 .before .before .before in
     has-room (s .pre .3) (s .pre .0) (s .pre .1)
 
 note-none-requires-5 : tie.Need-note-none-requires-5
 note-none-requires-5 c κs =
     let past6 = c .before .before .before .before .before .before in
-    let s = past6 .before .before .before .before .before in
+    let s = past6 .before .before .before in
     has-room (s .pre .3) (s .pre .0) (s .pre .1)
 
 note-signal-requires : tie.Need-note-signal-requires
 note-signal-requires c κs =
     let past6 = c .before .before .before .before .before .before in
-    let s = past6 .before .before .before .before .before in
+    let s = past6 .before .before .before in
     has-room (s .pre .3) (s .pre .0) (s .pre .1)
 
 note-two-requires : tie.Need-note-two-requires
 note-two-requires c κs =
     let past6 = c .before .before .before .before .before .before in
-    let s = past6 .before .before .before .before .before in
+    let s = past6 .before .before .before in
     has-room (s .pre .3) (s .pre .0) (s .pre .1)
 
 note-two-requires-2 : tie.Need-note-two-requires-2
 note-two-requires-2 c κs =
     let past6 = c .before .before .before .before .before .before in
-    let s = past6 .before .before .before .before .before in
+    let s = past6 .before .before .before in
     has-room (s .pre .3) (s .pre .0) (s .pre .1)
 
 note-two-requires-3 : tie.Need-note-two-requires-3
 note-two-requires-3 c κs =
     let past6 = c .before .before .before .before .before .before in
-    let s = past6 .before .before .before .before .before in
+    let s = past6 .before .before .before in
     has-room (s .pre .3) (s .pre .0) (s .pre .1)
 
 note-one-requires : tie.Need-note-one-requires
 note-one-requires c κs =
     let past6 = c .before .before .before .before .before .before in
-    let s = past6 .before .before .before .before .before in
+    let s = past6 .before .before .before in
     has-room (s .pre .3) (s .pre .0) (s .pre .1)
 
 note-one-requires-2 : tie.Need-note-one-requires-2
 note-one-requires-2 c κs =
     let past6 = c .before .before .before .before .before .before in
-    let s = past6 .before .before .before .before .before in
+    let s = past6 .before .before .before in
     has-room (s .pre .3) (s .pre .0) (s .pre .1)
 
 note-refused-requires : tie.Need-note-refused-requires
 note-refused-requires c κs =
     let past6 = c .before .before .before .before .before .before in
-    let s = past6 .before .before .before .before .before .before in
+    let s = past6 .before .before .before .before in
     has-room (s .pre .3) (s .pre .0) (s .pre .1)
 
 note-refused-requires-2 : tie.Need-note-refused-requires-2
 note-refused-requires-2 c κs =
     let past6 = c .before .before .before .before .before .before in
-    let s = past6 .before .before .before .before .before .before in
+    let s = past6 .before .before .before .before in
     has-room (s .pre .3) (s .pre .0) (s .pre .1)
 
 same-length : tie.Need-same-length
@@ -117,7 +117,7 @@ returns : tie.Need-returns
 returns c =
     let at-note-none = c .before .before .before .before .before .before in
     let at-match = at-note-none .before .before .before .before in
-    let at-kind-of = at-match .before .before .before in
+    let at-kind-of = at-match .before in
     let s = at-kind-of .before .before .before .before .before in
     mark-nothing (s .pre .0) (s .pre .3) (sym (at-kind-of .kind-of .ensures) ∙ at-match .match .keys1) (at-note-none .note-none .ensures)
 
@@ -133,10 +133,10 @@ same-length-6 c = search needs
 returns-2 : tie.Need-returns-2
 returns-2 c =
     let at-note-none2 = c .before .before .before .before .before .before in
-    let at-match = at-note-none2 .before .before .before .before in
-    let at-singleton = at-match .before in
-    let at-operand-of = at-singleton .before in
-    let at-kind-of = at-operand-of .before in
+    let at-singleton = at-note-none2 .before in
+    let at-operand-of = at-singleton .before .before .before .before in
+    let at-match = at-operand-of .before in
+    let at-kind-of = at-match .before in
     let s = at-kind-of .before .before .before .before .before in
     mark-pause (s .pre .0) (s .pre .3) (sym (at-kind-of .kind-of .ensures) ∙ at-match .match .keys2) _
     (at-singleton .singleton .ensures ∙ ap (λ (z : ℕ). only z % 2 ^ 64) (at-operand-of .operand-of .ensures) ∙ pause-word (getD (s .args .nodes .now) (s .args .at) 0)) (at-note-none2 .note-none2 .ensures)
@@ -154,7 +154,7 @@ returns-3 : tie.Need-returns-3
 returns-3 c =
     let at-note-none3 = c .before .before .before .before .before .before in
     let at-match = at-note-none3 .before .before .before .before in
-    let at-kind-of = at-match .before .before .before in
+    let at-kind-of = at-match .before in
     let s = at-kind-of .before .before .before .before .before in
     mark-gotopause (s .pre .0) (s .pre .3) (sym (at-kind-of .kind-of .ensures) ∙ at-match .match .keys3) (at-note-none3 .note-none3 .ensures)
 
@@ -171,7 +171,7 @@ returns-4 : tie.Need-returns-4
 returns-4 c =
     let at-note-none4 = c .before .before .before .before .before .before in
     let at-match = at-note-none4 .before .before .before .before in
-    let at-kind-of = at-match .before .before .before in
+    let at-kind-of = at-match .before in
     let s = at-kind-of .before .before .before .before .before in
     mark-emit (s .pre .0) (s .pre .3) (sym (at-kind-of .kind-of .ensures) ∙ at-match .match .keys4) (at-note-none4 .note-none4 .ensures)
 
@@ -188,7 +188,7 @@ returns-5 : tie.Need-returns-5
 returns-5 c =
     let at-note-none5 = c .before .before .before .before .before .before in
     let at-match = at-note-none5 .before .before .before .before in
-    let at-kind-of = at-match .before .before .before in
+    let at-kind-of = at-match .before in
     let s = at-kind-of .before .before .before .before .before in
     mark-exit (s .pre .0) (s .pre .3) (sym (at-kind-of .kind-of .ensures) ∙ at-match .match .keys5) (at-note-none5 .note-none5 .ensures)
 
@@ -205,7 +205,7 @@ returns-6 : tie.Need-returns-6
 returns-6 c =
     let at-note-signal = c .before .before .before .before .before .before in
     let at-match = at-note-signal .before .before .before .before in
-    let at-kind-of = at-match .before .before .before in
+    let at-kind-of = at-match .before in
     let s = at-kind-of .before .before .before .before .before in
     mark-signal (s .pre .0) (s .pre .3) (sym (at-kind-of .kind-of .ensures) ∙ at-match .match .keys6) (at-note-signal .note-signal .ensures)
 
@@ -222,7 +222,7 @@ returns-7 : tie.Need-returns-7
 returns-7 c =
     let at-note-two = c .before .before .before .before .before .before in
     let at-match = at-note-two .before .before .before .before in
-    let at-kind-of = at-match .before .before .before in
+    let at-kind-of = at-match .before in
     let s = at-kind-of .before .before .before .before .before in
     mark-present (s .pre .0) (s .pre .3) (sym (at-kind-of .kind-of .ensures) ∙ at-match .match .keys7) (at-note-two .note-two .ensures)
 
@@ -239,7 +239,7 @@ returns-8 : tie.Need-returns-8
 returns-8 c =
     let at-note-two2 = c .before .before .before .before .before .before in
     let at-match = at-note-two2 .before .before .before .before in
-    let at-kind-of = at-match .before .before .before in
+    let at-kind-of = at-match .before in
     let s = at-kind-of .before .before .before .before .before in
     mark-sequence (s .pre .0) (s .pre .3) (sym (at-kind-of .kind-of .ensures) ∙ at-match .match .keys8) (at-note-two2 .note-two2 .ensures)
 
@@ -256,7 +256,7 @@ returns-9 : tie.Need-returns-9
 returns-9 c =
     let at-note-two3 = c .before .before .before .before .before .before in
     let at-match = at-note-two3 .before .before .before .before in
-    let at-kind-of = at-match .before .before .before in
+    let at-kind-of = at-match .before in
     let s = at-kind-of .before .before .before .before .before in
     mark-parallel (s .pre .0) (s .pre .3) (sym (at-kind-of .kind-of .ensures) ∙ at-match .match .keys9) (at-note-two3 .note-two3 .ensures)
 
@@ -273,7 +273,7 @@ returns-10 : tie.Need-returns-10
 returns-10 c =
     let at-note-one = c .before .before .before .before .before .before in
     let at-match = at-note-one .before .before .before .before in
-    let at-kind-of = at-match .before .before .before in
+    let at-kind-of = at-match .before in
     let s = at-kind-of .before .before .before .before .before in
     mark-loop (s .pre .0) (s .pre .3) (sym (at-kind-of .kind-of .ensures) ∙ at-match .match .keys10) (at-note-one .note-one .ensures)
 
@@ -290,7 +290,7 @@ returns-11 : tie.Need-returns-11
 returns-11 c =
     let at-note-one2 = c .before .before .before .before .before .before in
     let at-match = at-note-one2 .before .before .before .before in
-    let at-kind-of = at-match .before .before .before in
+    let at-kind-of = at-match .before in
     let s = at-kind-of .before .before .before .before .before in
     mark-try (s .pre .0) (s .pre .3) (sym (at-kind-of .kind-of .ensures) ∙ at-match .match .keys11) (at-note-one2 .note-one2 .ensures)
 
@@ -307,7 +307,7 @@ returns-12 : tie.Need-returns-12
 returns-12 c =
     let past6 = c .before .before .before .before .before .before in
     let at-match = past6 .before .before .before .before .before in
-    let at-kind-of = at-match .before .before .before in
+    let at-kind-of = at-match .before in
     let s = at-kind-of .before .before .before .before .before in
     absurd (not-known (s .args .nodes .now) (s .args .at) _ (s .pre .2) (at-kind-of .kind-of .ensures)
     (none-of-kinds (at-kind-of .kind-of .result) (at-match .match .rest)))
@@ -325,7 +325,7 @@ returns-13 : tie.Need-returns-13
 returns-13 c =
     let past6 = c .before .before .before .before .before .before in
     let at-if1 = past6 .before .before .before .before in
-    let at-kind-of = at-if1 .before .before .before .before in
+    let at-kind-of = at-if1 .before .before in
     let s = at-kind-of .before .before .before .before .before in
     absurd (not-known (s .args .nodes .now) (s .args .at) _ (s .pre .2) (at-kind-of .kind-of .ensures) (omega (arith, at-if1 .if1 .left)))
 
@@ -336,9 +336,9 @@ note-at-spec =
     mul-node
     element-copy-out-node
     kind-of-requires
+    note-none-requires
     operand-of-requires
     singleton-requires
-    note-none-requires
     note-none-requires-2
     note-none-requires-3
     note-none-requires-4

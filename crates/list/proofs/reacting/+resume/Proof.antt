@@ -1,7 +1,7 @@
 -- The reactions of a resumed statement, kind by kind: the lists of the children are those that the calls left, and a statement
 -- without a label of the state has none. The depth of the statement falls.
 use native.Mathlib.Omega.{arith}
-use mathlib.Core.Path.{refl, sym, _∙_, subst}
+use mathlib.Core.Path.{refl, sym, _∙_}
 use mathlib.Core.List.{_++_}
 use lib.ListN.{getD}
 use Rattle.esterel.specs.Statement.{depth}

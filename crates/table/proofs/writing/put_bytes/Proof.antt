@@ -1,7 +1,7 @@
 -- `table::writing::put_bytes` meets its contract: after i turns the first i bytes of the word stand at `at`.
 use denote.Ref.{now}
 use mathlib.Core.Path.{_≡_, refl}
-use Prim.Native.Nat.{_-_, _*_, _≤_}
+use Prim.Native.Nat.{_-_, _≤_}
 use native.Mathlib.Omega.{arith}
 use lib.ListN.{length, length-set}
 use lib.Seq.{paste, paste-zero}
