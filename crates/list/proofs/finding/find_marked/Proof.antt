@@ -22,7 +22,7 @@ returns-2 : tie.Need-returns-2
 returns-2 c =
     let at-mark-front = c .before .before .before in
     let s = at-mark-front .before .before .before .before .before in
-    finds-deep _ _ (s .args .assumed) _ (s .args .area .now) (marked-nest (s .pre .0) (at-mark-front .mark-front .ensures) _ refl) (c .if2 .taken)
+    finds-deep _ _ (s .args .assumed) _ (s .args .area .now) (marked-nest (s .pre .0) (at-mark-front .mark-front .ensures) _ refl) (omega (arith, c .if2 .taken))
 
 reactions-in-requires : tie.Need-reactions-in-requires
 reactions-in-requires c κs =

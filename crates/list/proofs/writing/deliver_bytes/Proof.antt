@@ -11,7 +11,7 @@ use Rattle.list.proofs.writing.deliver_bytes.Tie as tie
 returns : tie.Need-returns
 returns c =
     let s = c .before .before .before .before .before in
-    bytes-refused _ 16 (short-signals (length (s .args .o .now) / 4) (length (s .args .k .now)) (length (s .args .l .now) / 8) (s .args .area .now) (s .args .n) (c .if1 .taken)) _ _ _ _ refl
+    bytes-refused _ 16 (short-signals (length (s .args .o .now) / 4) (length (s .args .k .now)) (length (s .args .l .now) / 8) (s .args .area .now) (s .args .n) (omega (arith, c .if1 .taken))) _ _ _ _ refl
 
 returns-2 : tie.Need-returns-2
 returns-2 c =
