@@ -15,3 +15,7 @@ pub mod Emitting
 pub mod Listing
 pub mod Needed
 pub mod Indistinguishable
+pub mod Conditions
+pub mod Proper
+pub mod RowOrder
+pub mod Rows

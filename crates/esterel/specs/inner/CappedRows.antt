@@ -1,0 +1,115 @@
+-- The rows as code makes them: in order, each once, and none where a list on the way has over 64. With no signal unknown that
+-- is none exactly where refusal 15 is due, and else the listing; with unknown signals none is giving up, which says nothing of
+-- refusal 15, and rows say that it is not due under any set that agrees with E (proofs/CappedRows).
+use Prim.Native.Nat.{ℕ}
+use mathlib.Core.Bool.{Bool, cond, not, _&&_, _||_}
+use mathlib.Core.List.{List, [], _∷_, _++_}
+use mathlib.Core.Option.{Option, none, some}
+use lib.Dec.{eqb, ltb}
+use lib.ListN.{length}
+use Rattle.sets.specs.Set.{has, only, _union_, _intersect_, _without_}
+use Rattle.esterel.specs.Statement.{Statement, nothing, pause, gotopause, emit, exit, signal, present, sequence, parallel, loop, try, pauses}
+use Rattle.esterel.specs.Codes.{codeOf}
+use Rattle.esterel.specs.Reactions.{State, start, resumed, Reaction}
+use Rattle.esterel.specs.Trimming.{names}
+use Rattle.esterel.specs.Listing.{reaction, before, someEnds}
+use Rattle.esterel.specs.inner.Conditions.{beforeCondition}
+use Rattle.esterel.specs.inner.Rows.{Row, row, sure, onlyRows, reactions, eachRow, tested, emitRows, hidden, localRows, followRows, togetherRows, goingRows, caughtRows}
+
+-- ---- The order of rows
+
+-- by reaction, then by condition
+unfoldable pub beforeRow : Row → Row → Bool
+beforeRow w v = before (w .reacts) (v .reacts) || (not (before (v .reacts) (w .reacts)) && beforeCondition (w .when) (v .when))
+
+-- into its place in a rising list, unless it is there
+unfoldable pub insertRow : Row → List Row → List Row
+insertRow w [] = w ∷ []
+insertRow w (v ∷ vs) = cond (beforeRow w v) (w ∷ v ∷ vs) (cond (beforeRow v w) (v ∷ insertRow w vs) (v ∷ vs))
+
+unfoldable pub sortedRows : List Row → List Row
+sortedRows [] = []
+sortedRows (w ∷ ws) = insertRow w (sortedRows ws)
+
+-- ---- Lists of at most 64 rows
+
+abbrev pub Capped : Type 0
+Capped = Option (List Row)
+
+-- a list of over 64 rows counts as none
+unfoldable pub capRows : List Row → Capped
+capRows ws = cond (ltb 64 (length ws)) none (some ws)
+
+-- rows in any order, and more than once, as a rising list
+unfoldable pub collectRows : List Row → Capped
+collectRows ws = capRows (sortedRows ws)
+
+-- the reactions of the rows
+unfoldable pub reactionsIn : Capped → Option (List Reaction)
+reactionsIn none = none
+reactionsIn (some ws) = some (reactions ws)
+
+-- one list changed; two lists made one
+unfoldable pub changeRows : (List Row → List Row) → Capped → Capped
+changeRows f none = none
+changeRows f (some ws) = collectRows (f ws)
+
+unfoldable pub joinRows : (List Row → List Row → List Row) → Capped → Capped → Capped
+joinRows f none w = none
+joinRows f (some ws) none = none
+joinRows f (some ws) (some vs) = collectRows (f ws vs)
+
+-- what follows is needed only where some row has a code 0
+unfoldable pub thenRows : Capped → Capped → Capped
+thenRows none w = none
+thenRows (some ws) w = cond (someEnds (reactions ws)) (joinRows followRows (some ws) w) (some ws)
+
+-- p || q resumed: one part alone where the state has no label of a pause in the other
+unfoldable pub besideRows : Bool → Bool → Capped → Capped → Capped
+besideRows notP notQ v w = cond notP w (cond notQ v (joinRows togetherRows v w))
+
+-- the second where the first gave up
+unfoldable pub otherwise : Capped → Capped → Capped
+otherwise none w = w
+otherwise (some ws) w = some ws
+
+-- rule signal+, for a body listed with S present: those that emit S, without it
+unfoldable pub hideRows : ℕ → List Row → List Row
+hideRows S ws = eachRow ws (λ w. onlyRows (has (w .reacts .emitted) S) (row (w .when) (hidden S (w .reacts)) ∷ []))
+
+-- the two lists of a body, with S present and with S absent, as one
+unfoldable pub twiceRows : ℕ → Capped → Capped → Capped
+twiceRows S v w = joinRows _++_ (changeRows (hideRows S) v) w
+
+-- p in the state x, where the signals of U are unknown and E says which others are present
+unfoldable pub cappedRows : Statement → State → ℕ → ℕ → Capped
+cappedRows nothing start E U = some (sure (reaction 0 0 0))
+cappedRows nothing (resumed X) E U = some []
+cappedRows (pause l) start E U = some (sure (reaction 0 1 (only l)))
+cappedRows (pause l) (resumed X) E U = some (onlyRows (has X l) (sure (reaction 0 0 0)))
+cappedRows (gotopause l) start E U = some (sure (reaction 0 1 (only l)))
+cappedRows (gotopause l) (resumed X) E U = some []
+cappedRows (emit S) start E U = some (emitRows S E U)
+cappedRows (emit S) (resumed X) E U = some []
+cappedRows (exit d) start E U = some (sure (reaction 0 (codeOf d) 0))
+cappedRows (exit d) (resumed X) E U = some []
+-- a signal that its body does not name is no signal; else once with S unknown, and where that gives up and no signal around is
+-- unknown, with S present and with S absent
+cappedRows (signal S p) x E U =
+    cond (names S p)
+    (otherwise (changeRows (localRows S) (cappedRows p x E (U union only S)))
+    (cond (eqb U 0) (twiceRows S (cappedRows p x (E union only S) 0) (cappedRows p x (E without S) 0)) none))
+    (cappedRows p x E U)
+cappedRows (present S p q) start E U =
+    cond (has U S) (joinRows (tested S) (cappedRows p start E U) (cappedRows q start E U))
+    (cond (has E S) (cappedRows p start E U) (cappedRows q start E U))
+cappedRows (present S p q) (resumed X) E U = joinRows _++_ (cappedRows p (resumed X) E U) (cappedRows q (resumed X) E U)
+cappedRows (sequence p q) start E U = thenRows (cappedRows p start E U) (cappedRows q start E U)
+cappedRows (sequence p q) (resumed X) E U =
+    joinRows _++_ (thenRows (cappedRows p (resumed X) E U) (cappedRows q start E U)) (cappedRows q (resumed X) E U)
+cappedRows (parallel p q) start E U = joinRows togetherRows (cappedRows p start E U) (cappedRows q start E U)
+cappedRows (parallel p q) (resumed X) E U =
+    besideRows (eqb (X intersect pauses p) 0) (eqb (X intersect pauses q) 0) (cappedRows p (resumed X) E U) (cappedRows q (resumed X) E U)
+cappedRows (loop p) start E U = changeRows goingRows (cappedRows p start E U)
+cappedRows (loop p) (resumed X) E U = thenRows (cappedRows p (resumed X) E U) (changeRows goingRows (cappedRows p start E U))
+cappedRows (try p) x E U = changeRows caughtRows (cappedRows p x E U)
