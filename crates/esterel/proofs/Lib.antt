@@ -19,3 +19,6 @@ pub mod Conditions
 pub mod Proper
 pub mod RowOrder
 pub mod Rows
+pub mod Unknown
+pub mod Quiet
+pub mod RowsEmitting
