@@ -20,5 +20,8 @@ pub mod Proper
 pub mod RowOrder
 pub mod Rows
 pub mod Unknown
+pub mod Ends
 pub mod Quiet
 pub mod RowsEmitting
+pub mod Absent
+pub mod UnnamedLists

@@ -1,15 +1,15 @@
 -- Where every list of rows on the way has at most 64, refusal 15 is due under no set that agrees with E: a list that is needed under
 -- such a set has its reactions among those of a list of rows.
 use mathlib.Core.Path.{_≡_, refl, sym, ap, ap₂, _∙_}
-use mathlib.Core.Logic.{_⊎_, inl, inr}
+use mathlib.Core.Logic.{inl, inr}
 use mathlib.Core.Bool.{Bool, true, false, cond, not, _||_}
 use mathlib.Core.List.{List, [], _∷_, _++_}
 use Prim.Native.Nat.{ℕ, suc, _≤_}
 use native.Mathlib.Omega.{arith}
-use lib.Dec.{eqb, ltb}
+use lib.Dec.{ltb}
 use lib.ListN.{length}
 use Rattle.sets.specs.Set.{has, only, _union_, _without_}
-use Rattle.sets.proofs.Booleans.{or-left, or-right, or-cases, not-true, clash, by-cond}
+use Rattle.sets.proofs.Booleans.{not-true, by-cond}
 use Rattle.sets.proofs.Members.{has-without-other}
 use Rattle.esterel.specs.Statement.{Statement, nothing, pause, gotopause, emit, exit, signal, present, sequence, parallel, loop, try}
 use Rattle.esterel.specs.Reactions.{State, start, resumed, Reaction}
@@ -21,6 +21,7 @@ use Rattle.esterel.proofs.Listing.{list-rising}
 use Rattle.esterel.proofs.Needed.{crowded-step}
 use Rattle.esterel.proofs.Conditions.{added}
 use Rattle.esterel.proofs.Rows.{Lists}
+use Rattle.esterel.proofs.Ends.{ends-of}
 use Rattle.esterel.proofs.Unknown.{agree-inside, rows-of}
 
 -- ---- lengths
@@ -65,21 +66,6 @@ few-listed p x E U F a q =
 
 -- ---- ends
 
-ends-in : (r : Reaction) (ts : List Reaction) → Listed r ts → eqb (r .code) 0 ≡ true → someEnds ts ≡ true
-unfolding someEnds
-ends-in r (t ∷ ts) (inl h) e = or-left _ (ap (λ (z : Reaction). eqb (z .code) 0) (sym h) ∙ e)
-ends-in r (t ∷ ts) (inr m) e = or-right (eqb (t .code) 0) (ends-in r ts m e)
-
-ends-out : (ts : List Reaction) → someEnds ts ≡ true → (r : Reaction) × Listed r ts × (eqb (r .code) 0 ≡ true)
-unfolding someEnds
-ends-out [] h = clash h refl
-ends-out (t ∷ ts) h = go (λ k. ends-out ts k) (or-cases (eqb (t .code) 0) (someEnds ts) h)
-  where
-    go : (someEnds ts ≡ true → (r : Reaction) × Listed r ts × (eqb (r .code) 0 ≡ true)) → (eqb (t .code) 0 ≡ true) ⊎ (someEnds ts ≡ true)
-        → (r : Reaction) × Listed r (t ∷ ts) × (eqb (r .code) 0 ≡ true)
-    go ih (inl k) = (t, inl refl, k)
-    go ih (inr k) = let (r, m, e) = ih k in (r, inr m, e)
-
 under-reactions : (F : ℕ) (ws : List Row) (r : Reaction) → Listed r (under F ws) → Listed r (reactions ws)
 unfolding under reactions
 under-reactions F [] r m = m
@@ -92,9 +78,7 @@ under-reactions F (w ∷ ws) r m = go (holds (w .when) F) (under-reactions F ws 
 
 -- an end that is listed is an end of some row
 pub lists-ends : {F : ℕ} {ws : List Row} {ts : List Reaction} → Lists F ws ts → someEnds ts ≡ true → someEnds (reactions ws) ≡ true
-lists-ends {F} {ws} {ts} l h =
-    let (r, m, e) = ends-out ts h in
-    ends-in r (reactions ws) (under-reactions F ws r (l .back r m)) e
+lists-ends {F} {ws} {ts} l h = ends-of ts (reactions ws) (λ r m. under-reactions F ws r (l .back r m)) h
 
 -- ---- needed lists
 
