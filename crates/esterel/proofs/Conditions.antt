@@ -124,6 +124,9 @@ holds-but S F G c ok s f g =
 pub added : (S F : ℕ) → SameBut S F (F union only S)
 added S F x n = sym (has-union F (only S) x ∙ ap (λ z. has F x || z) (has-only-other S x n) ∙ or-false (has F x))
 
+pub removed : (S F : ℕ) → SameBut S F (F without S)
+removed S F x n = sym (has-without-other F S x n)
+
 pub holds-added : (S F : ℕ) (c : Condition) → holds c (F union only S) ≡ (not (has (c .off) S) && holds (forget S c) F)
 holds-added S F c =
     holds-but S F (F union only S) c (not (has (c .off) S)) (added S F)
@@ -135,6 +138,6 @@ holds-added S F c =
 
 pub holds-removed : (S F : ℕ) (c : Condition) → holds c (F without S) ≡ (not (has (c .on) S) && holds (forget S c) F)
 holds-removed S F c =
-    holds-but S F (F without S) c (not (has (c .on) S)) (λ x n. sym (has-without-other F S x n))
+    holds-but S F (F without S) c (not (has (c .on) S)) (removed S F)
     (λ e. (λ h. clash e (ap not h), λ h. has-without-same F S))
     (λ u v. ap not (not-true (has (c .on) S) (λ h. clash (u h) (has-without-same F S))))

@@ -25,3 +25,6 @@ pub mod Quiet
 pub mod RowsEmitting
 pub mod Absent
 pub mod UnnamedLists
+pub mod Told
+pub mod CappedArms
+pub mod CappedRows

@@ -2,7 +2,7 @@
 -- signals only. All that follows is of any rows that do so: each row is a reaction under some such set, and with no signal
 -- unknown the rows are the listing.
 use mathlib.Core.Path.{_≡_, refl, sym, ap, ap₂, _∙_, subst}
-use mathlib.Core.Logic.{_↔_}
+use mathlib.Core.Logic.{_↔_, inl, inr}
 use mathlib.Core.Bool.{Bool, true, false, not, _&&_, _||_}
 use mathlib.Core.List.{List, [], _∷_, _++_}
 use Prim.Native.Nat.{ℕ, _^_, _<_}
@@ -14,7 +14,7 @@ use Rattle.sets.proofs.Booleans.{not-true, clash}
 use Rattle.sets.proofs.Members.{has-empty, has-union, has-intersect, has-minus, has-only, has-without-other, within-ext, fits, past-width, apart-sym}
 use Rattle.esterel.specs.Statement.{Statement, nothing, pause, gotopause, emit, exit, signal, present, sequence, parallel, loop, try, pauses}
 use Rattle.esterel.specs.Reactions.{State, start, resumed, Reaction, Reacts}
-use Rattle.esterel.specs.Listing.{Listed, sorted, one, onlyIf, list}
+use Rattle.esterel.specs.Listing.{Listed, Before, Rising, sorted, one, onlyIf, list}
 use Rattle.esterel.specs.inner.Conditions.{always, holds}
 use Rattle.esterel.specs.inner.Rows.{Row, under, reactions, rows, Agree, Gives}
 use Rattle.esterel.proofs.Unnamed.{SameBut}
@@ -23,6 +23,7 @@ use Rattle.esterel.proofs.Order.{sorted-in, sorted-out, sorted-rising, 
 use Rattle.esterel.proofs.Listing.{list-rising, list-is-listing}
 use Rattle.esterel.proofs.Conditions.{holds-is, either, in-left, in-right, added}
 use Rattle.esterel.proofs.Proper.{All, none, more, all-append, all-cond, all-out, Proper, within-none, silent, proper-emit, proper-asked, proper-local, proper-follow, proper-together, proper-going, proper-caught}
+use Rattle.esterel.proofs.RowOrder.{BeforeCondition, BeforeRow, RisingRows}
 use Rattle.esterel.proofs.Rows.{Lists, lists-none, lists-sure, lists-cond, lists-append, lists-asked, lists-emit, lists-local, lists-sorted, lists-follow, lists-together, lists-going, lists-caught, under-in, under-out}
 
 -- ---- rows of a statement
@@ -126,12 +127,41 @@ under-all F (more {w = w} {ws = ws} k h) =
     ap (λ z. onlyIf z (one (w .reacts)) ++ under F ws) (holds-is (w .when) F (λ x m. clash (k .ons x m) (has-empty x), λ x m. clash (k .offs x m) (has-empty x)))
     ∙ ap (λ ts. w .reacts ∷ ts) (under-all F h)
 
+-- so they list the same under every set
+pub lists-anywhere : (F : ℕ) {G : ℕ} {ws : List Row} {ts : List Reaction} → All (Proper 0 0) ws → Lists G ws ts → Lists F ws ts
+lists-anywhere F {G} {ws} k l =
+    let e : under F ws ≡ under G ws = under-all F k ∙ sym (under-all G k) in
+    record { out = λ r m. l .out r (subst (Listed r) e m); back = λ r m. subst (Listed r) (sym e) (l .back r m) }
+
 pub no-condition : {w : Row} → Proper 0 0 w → w .when ≡ always
 unfolding always
 no-condition {w} k =
     let u : w .when .on ≡ 0 = within-ext (w .when .on) 0 (k .ons) (within-none (w .when .on)) in
     let v : w .when .off ≡ 0 = within-ext (w .when .off) 0 (k .offs) (within-none (w .when .off)) in
     λ i. record { on = u i; off = v i }
+
+reactions-out : (ws : List Row) (r : Reaction) → Listed r (reactions ws) → (w : Row) × Listed w ws × (w .reacts ≡ r)
+unfolding reactions
+reactions-out [] r m = absurd m
+reactions-out (w ∷ ws) r (inl e) = (w, inl refl, sym e)
+reactions-out (w ∷ ws) r (inr m) = let (v, n, e) = reactions-out ws r m in (v, inr n, e)
+
+-- and the order of rows is that of their reactions
+pub rising-reactions : {ws : List Row} → RisingRows ws → All (Proper 0 0) ws → Rising (reactions ws)
+unfolding reactions always
+rising-reactions h none = tt
+rising-reactions h (more {w = w} {ws = ws} k l) = (
+  λ u m. let (v, n, e) = reactions-out ws u m in subst (Before (w .reacts)) e (go v (h .0 v n) (no-condition k) (no-condition (all-out l v n))),
+  rising-reactions (h .1) l,
+)
+  where
+    never : BeforeCondition always always → ⊥
+    never (inl i) = omega arith
+    never (inr i) = let j = i .1 in omega arith
+
+    go : (v : Row) → BeforeRow w v → w .when ≡ always → v .when ≡ always → Before (w .reacts) (v .reacts)
+    go v (inl b) c d = b
+    go v (inr b) c d = absurd (never (subst (λ z. BeforeCondition z always) c (subst (BeforeCondition (w .when)) d (b .1))))
 
 pub of-all : {p : Statement} {x : State} {E : ℕ} {ws : List Row} → RowsOf p x E 0 ws → sorted (reactions ws) ≡ list p x E
 of-all {E = E} h = ap sorted (sym (under-all E (h .proper))) ∙ of-list h E (λ S e. refl)
