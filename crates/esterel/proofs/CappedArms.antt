@@ -16,14 +16,14 @@ use Rattle.esterel.specs.Statement.{Statement, present, sequence, parall
 use Rattle.esterel.specs.Reactions.{State, start, resumed, Reaction}
 use Rattle.esterel.specs.Listing.{Listed, reaction, sorted, onlyIf, each, follow, together, going, list, listing, Request, request, needs, someEnds, some as some-of, crowded}
 use Rattle.esterel.specs.inner.Conditions.{condition}
-use Rattle.esterel.specs.inner.Rows.{Row, row, sure, onlyRows, tested, emitRows, followRows, togetherRows, goingRows, caughtRows, rows, Agree}
-use Rattle.esterel.specs.inner.CappedRows.{Capped, changeRows, joinRows, thenRows, besideRows}
+use Rattle.esterel.specs.inner.Rows.{Row, rowWhen, sure, onlyRows, tested, emitRows, followRows, togetherRows, goingRows, caughtRows, rowsOf, Agree}
+use Rattle.esterel.specs.inner.CappedRows.{CappedRows, changeRows, joinRows, thenRows, besideRows}
 use Rattle.esterel.proofs.Order.{append-left, append-right, onlyIf-out, sorted-in, sorted-out}
 use Rattle.esterel.proofs.Listing.{going-out, together-out, split}
 use Rattle.esterel.proofs.Proper.{all-append, proper-tested, proper-follow, proper-together, proper-going, proper-caught}
 use Rattle.esterel.proofs.RowOrder.{RisingRows}
 use Rattle.esterel.proofs.Rows.{Alike, lists-same, lists-append, lists-tested, lists-sorted, lists-follow, lists-together, lists-going, lists-caught}
-use Rattle.esterel.proofs.Unknown.{rows-of}
+use Rattle.esterel.proofs.Unknown.{rows-are}
 use Rattle.esterel.proofs.Ends.{alike-follow, alike-going, alike-again}
 use Rattle.esterel.proofs.Quiet.{crowds, some-more, some-if}
 use Rattle.esterel.proofs.Absent.{apart-empty, apart-not-crowded}
@@ -69,13 +69,13 @@ single [] h = tt
 single (w ∷ []) h = (λ v m. absurd m, tt)
 single (w ∷ v ∷ ws) h = absurd (omega arith)
 
-pub leaf : (p : Statement) (x : State) (E U : ℕ) → length (rows p x E U) ≤ 1 → ((F : ℕ) → needs p x F ≡ []) → Answered p x E U (some (rows p x E U))
+pub leaf : (p : Statement) (x : State) (E U : ℕ) → length (rowsOf p x E U) ≤ 1 → ((F : ℕ) → needs p x F ≡ []) → Answered p x E U (some (rowsOf p x E U))
 unfolding some-of
 leaf p x E U h n = whole p x (tells (record {
   short = omega arith;
-  rising = single (rows p x E U) h;
-  proper = rows-of p x E U .proper;
-  lists = rows-of p x E U .lists;
+  rising = single (rowsOf p x E U) h;
+  proper = rows-are p x E U .proper;
+  lists = rows-are p x E U .lists;
   quiet = λ F a. ap (some-of crowds) (n F);
 }))
 
@@ -85,11 +85,11 @@ one-row b r = by-cond (λ ws. length ws ≤ 1) b (sure r) [] (λ e. omega arith)
 pub emit-one : (S E U : ℕ) → length (emitRows S E U) ≤ 1
 unfolding emitRows
 emit-one S E U =
-    by-cond (λ ws. length ws ≤ 1) (has U S) (row (condition (only S) 0) (reaction (only S) 0 0) ∷ []) (onlyRows (has E S) (sure (reaction (only S) 0 0)))
+    by-cond (λ ws. length ws ≤ 1) (has U S) (rowWhen (condition (only S) 0) (reaction (only S) 0 0) ∷ []) (onlyRows (has E S) (sure (reaction (only S) 0 0)))
     (λ e. omega arith) (λ e. one-row (has E S) (reaction (only S) 0 0))
 
 -- ---- present S then p else q
-present-unknown : (S : ℕ) (p q : Statement) (E U : ℕ) {v w : Capped} → has U S ≡ true → Answered p start E U v → Answered q start E U w
+present-unknown : (S : ℕ) (p q : Statement) (E U : ℕ) {v w : CappedRows} → has U S ≡ true → Answered p start E U v → Answered q start E U w
     → Answered (present S p q) start E U (joinRows (tested S) v w)
 unfolding list needs
 present-unknown S p q E U u a b =
@@ -103,7 +103,7 @@ present-unknown S p q E U u a b =
     unknown z = clash u (ap (λ (y : ℕ). has y S) z ∙ has-empty S)
 
 -- the branch t that is taken is known
-present-known : (S : ℕ) (p q t : Statement) (E U : ℕ) {v : Capped}
+present-known : (S : ℕ) (p q t : Statement) (E U : ℕ) {v : CappedRows}
     → ((F : ℕ) → Agree U E F → (list (present S p q) start F ≡ list t start F) × (needs (present S p q) start F ≡ request t start F ∷ []))
     → Answered t start E U v → Answered (present S p q) start E U v
 present-known S p q t E U f a =
@@ -111,7 +111,7 @@ present-known S p q t E U f a =
     (λ d z. due (present S p q) start E (request t start E) (subst (Listed (request t start E)) (sym (f E (λ y h. refl) .1)) (inl refl)) (d z))
     (λ F c. same-alike (f F c .0)) (λ F c n. ap (some-of crowds) (f F c .1) ∙ one-quiet (request t start F) n) a)
 
-pub present-start : (S : ℕ) (p q : Statement) (E U : ℕ) (v w : Capped) → Answered p start E U v → Answered q start E U w
+pub present-start : (S : ℕ) (p q : Statement) (E U : ℕ) (v w : CappedRows) → Answered p start E U v → Answered q start E U w
     → Answered (present S p q) start E U (cond (has U S) (joinRows (tested S) v w) (cond (has E S) v w))
 unfolding list needs
 present-start S p q E U v w a b =
@@ -124,7 +124,7 @@ present-start S p q E U v w a b =
     taken F true e = (rw e, rw e)
     taken F false e = (rw e, rw e)
 
-pub present-resumed : (S : ℕ) (p q : Statement) (X E U : ℕ) {v w : Capped} → Answered p (resumed X) E U v → Answered q (resumed X) E U w
+pub present-resumed : (S : ℕ) (p q : Statement) (X E U : ℕ) {v w : CappedRows} → Answered p (resumed X) E U v → Answered q (resumed X) E U w
     → Answered (present S p q) (resumed X) E U (joinRows _++_ v w)
 unfolding list needs
 present-resumed S p q X E U a b =
@@ -134,7 +134,7 @@ present-resumed S p q X E U a b =
     (λ F c. two-quiet (request p (resumed X) F) (request q (resumed X) F) (k .quiet F c) (l .quiet F c)) (λ r m. m)))
 
 -- ---- p ; q
-pub sequence-start : (p q : Statement) (E U : ℕ) {v w : Capped} → Answered p start E U v → Answered q start E U w → Answered (sequence p q) start E U (thenRows v w)
+pub sequence-start : (p q : Statement) (E U : ℕ) {v w : CappedRows} → Answered p start E U v → Answered q start E U w → Answered (sequence p q) start E U (thenRows v w)
 unfolding list needs
 sequence-start p q E U a b =
     whole (sequence p q) start (followed a b (λ d z. due (sequence p q) start E (request p start E) (inl refl) (d z))
@@ -144,7 +144,7 @@ sequence-start p q E U a b =
     (λ F c e. sorted-alike (list p start F) (follow (list p start F) (list q start F)) (alike-follow (list p start F) (list q start F) e))
     (λ F c e n. end-quiet (request p start F) (request q start F) (someEnds (list p start F)) e n))
 
-pub sequence-resumed : (p q : Statement) (X E U : ℕ) {v w u : Capped} → Answered p (resumed X) E U v → Answered q start E U w → Answered q (resumed X) E U u
+pub sequence-resumed : (p q : Statement) (X E U : ℕ) {v w u : CappedRows} → Answered p (resumed X) E U v → Answered q start E U w → Answered q (resumed X) E U u
     → Answered (sequence p q) (resumed X) E U (joinRows _++_ (thenRows v w) u)
 unfolding list needs
 sequence-resumed p q X E U {v} {w} a b d =
@@ -167,7 +167,7 @@ sequence-resumed p q X E U {v} {w} a b d =
         (λ F c e n. end-quiet (request p (resumed X) F) (request q start F) (someEnds (list p (resumed X) F)) e n)
 
 -- ---- p || q
-pub parallel-both : (p q : Statement) (x : State) (E U : ℕ) {v w : Capped} → ((F : ℕ) → Alike (together (list p x F) (list q x F)) (list (parallel p q) x F))
+pub parallel-both : (p q : Statement) (x : State) (E U : ℕ) {v w : CappedRows} → ((F : ℕ) → Alike (together (list p x F) (list q x F)) (list (parallel p q) x F))
     → Answered p x E U v → Answered q x E U w → Answered (parallel p q) x E U (joinRows togetherRows v w)
 unfolding needs
 parallel-both p q x E U f a b =
@@ -200,7 +200,7 @@ right-absent b ts = (
 both-there : (ts us : List Reaction) → Alike (together ts us) (together ts us ++ ([] ++ []))
 both-there ts us = (λ r m. append-left r (together ts us) [] m, λ r m. split r (together ts us) [] m (λ n. n) (λ n. absurd n))
 
-parallel-left : (p q : Statement) (X E U : ℕ) {w : Capped} → eqb (X intersect pauses p) 0 ≡ true → Answered q (resumed X) E U w → Answered (parallel p q) (resumed X) E U w
+parallel-left : (p q : Statement) (X E U : ℕ) {w : CappedRows} → eqb (X intersect pauses p) 0 ≡ true → Answered q (resumed X) E U w → Answered (parallel p q) (resumed X) E U w
 unfolding list needs
 parallel-left p q X E U e b =
     let h = test-apart X (pauses p) e in
@@ -211,7 +211,7 @@ parallel-left p q X E U e b =
     alone : (F : ℕ) → Apart X (pauses p) → Alike (list q (resumed X) F) (beside X p q F)
     alone F h = rw (e, apart-empty p X F h) (left-absent (eqb (X intersect pauses q) 0) (list q (resumed X) F))
 
-parallel-right : (p q : Statement) (X E U : ℕ) {v : Capped} → eqb (X intersect pauses q) 0 ≡ true → Answered p (resumed X) E U v → Answered (parallel p q) (resumed X) E U v
+parallel-right : (p q : Statement) (X E U : ℕ) {v : CappedRows} → eqb (X intersect pauses q) 0 ≡ true → Answered p (resumed X) E U v → Answered (parallel p q) (resumed X) E U v
 unfolding list needs
 parallel-right p q X E U e a =
     let h = test-apart X (pauses q) e in
@@ -222,7 +222,7 @@ parallel-right p q X E U e a =
     alone : (F : ℕ) → Apart X (pauses q) → Alike (list p (resumed X) F) (beside X p q F)
     alone F h = rw (e, apart-empty q X F h) (right-absent (eqb (X intersect pauses p) 0) (list p (resumed X) F))
 
-pub parallel-resumed : (p q : Statement) (X E U : ℕ) (v w : Capped) → Answered p (resumed X) E U v → Answered q (resumed X) E U w
+pub parallel-resumed : (p q : Statement) (X E U : ℕ) (v w : CappedRows) → Answered p (resumed X) E U v → Answered q (resumed X) E U w
     → Answered (parallel p q) (resumed X) E U (besideRows (eqb (X intersect pauses p) 0) (eqb (X intersect pauses q) 0) v w)
 unfolding besideRows list
 parallel-resumed p q X E U v w a b =
@@ -235,14 +235,14 @@ parallel-resumed p q X E U v w a b =
     meets F e f = rw (e, f) (both-there (list p (resumed X) F) (list q (resumed X) F))
 
 -- ---- loop p and try p
-pub loop-start : (p : Statement) (E U : ℕ) {v : Capped} → Answered p start E U v → Answered (loop p) start E U (changeRows goingRows v)
+pub loop-start : (p : Statement) (E U : ℕ) {v : CappedRows} → Answered p start E U v → Answered (loop p) start E U (changeRows goingRows v)
 unfolding list needs
 loop-start p E U a =
     whole (loop p) start (changed goingRows a (λ d z. due (loop p) start E (request p start E) (inl refl) (d z))
     (λ ws k. collected (loop p) start E U (goingRows ws) (proper-going (k .proper)) (λ F c. lists-sorted (lists-going (k .lists F c)))
     (λ F c. one-quiet (request p start F) (k .quiet F c)) (λ r m. m)))
 
-pub loop-resumed : (p : Statement) (X E U : ℕ) {v w : Capped} → Answered p (resumed X) E U v → Answered p start E U w
+pub loop-resumed : (p : Statement) (X E U : ℕ) {v w : CappedRows} → Answered p (resumed X) E U v → Answered p start E U w
     → Answered (loop p) (resumed X) E U (thenRows v (changeRows goingRows w))
 unfolding list needs
 loop-resumed p X E U {w = w} a b =
@@ -259,7 +259,7 @@ loop-resumed p X E U {w = w} a b =
         changed goingRows b (λ d. d) (λ vs k. collected p start E U (goingRows vs) (proper-going (k .proper)) (λ F c. lists-going (k .lists F c)) (k .quiet)
         (λ r m. going-out (list p start E) r m .0))
 
-pub try-any : (p : Statement) (x : State) (E U : ℕ) {v : Capped} → Answered p x E U v → Answered (try p) x E U (changeRows caughtRows v)
+pub try-any : (p : Statement) (x : State) (E U : ℕ) {v : CappedRows} → Answered p x E U v → Answered (try p) x E U (changeRows caughtRows v)
 unfolding list needs
 try-any p x E U a =
     whole (try p) x (changed caughtRows a (λ d z. due (try p) x E (request p x E) (inl refl) (d z))

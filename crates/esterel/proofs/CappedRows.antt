@@ -16,14 +16,14 @@ use Rattle.esterel.specs.Statement.{Statement, nothing, pause, gotopause
 use Rattle.esterel.specs.Reactions.{State, start, resumed}
 use Rattle.esterel.specs.Trimming.{names}
 use Rattle.esterel.specs.Listing.{reaction, sorted, each, hide, together, list, listing, request, needs, crowded}
-use Rattle.esterel.specs.inner.Rows.{Row, under, reactions, localRows, rows, Agree}
-use Rattle.esterel.specs.inner.CappedRows.{Capped, reactionsIn, changeRows, otherwise, hideRows, twiceRows, cappedRows}
+use Rattle.esterel.specs.inner.Rows.{Row, under, reactions, localRows, rowsOf, Agree}
+use Rattle.esterel.specs.inner.CappedRows.{CappedRows, reactionsIn, changeRows, otherwise, hideRows, twiceRows, cappedRows}
 use Rattle.esterel.proofs.Order.{append-left, sorted-in, sorted-of-rising}
 use Rattle.esterel.proofs.Conditions.{in-right, added, removed}
 use Rattle.esterel.proofs.Proper.{all-append, proper-local, proper-hide}
 use Rattle.esterel.proofs.RowOrder.{RisingRows}
 use Rattle.esterel.proofs.Rows.{lists-append, lists-local, lists-hide, lists-sorted}
-use Rattle.esterel.proofs.Unknown.{RowsOf, agree-inside, lists-anywhere, rising-reactions, of-list, of-all}
+use Rattle.esterel.proofs.Unknown.{AreRows, agree-inside, lists-anywhere, rising-reactions, of-list, of-all}
 use Rattle.esterel.proofs.UnnamedLists.{unnamed-crowded, undeclared-list}
 use Rattle.esterel.proofs.Told.{Told, Answers, wants, tells, Due, Answered, Below, collected, weaker, same-rows, whole, changed, joined, instead, due}
 use Rattle.esterel.proofs.CappedArms.{two-quiet, leaf, one-row, emit-one, present-start, present-resumed, sequence-start, sequence-resumed, parallel-both, parallel-resumed, loop-start, loop-resumed, try-any, sorted-alike, same-alike}
@@ -31,7 +31,7 @@ use Rattle.esterel.proofs.CappedArms.{two-quiet, leaf, one-row, emit-on
 -- ---- signal S in p
 
 -- a signal that its body does not name
-signal-unnamed : (S : ℕ) (p : Statement) (x : State) (E U : ℕ) {v : Capped} → names S p ≡ false → Answered p x E U v → Answered (signal S p) x E U v
+signal-unnamed : (S : ℕ) (p : Statement) (x : State) (E U : ℕ) {v : CappedRows} → names S p ≡ false → Answered p x E U v → Answered (signal S p) x E U v
 unfolding needs
 signal-unnamed S p x E U n a =
     whole (signal S p) x (same-rows
@@ -41,7 +41,7 @@ signal-unnamed S p x E U n a =
     (sym (unnamed-crowded S p x F (F without S) n (removed S F)) ∙ h)) a)
 
 -- once, with S unknown
-attempt : (S : ℕ) (p : Statement) (x : State) (E U : ℕ) {v : Capped} → Answered p x E (U union only S) v
+attempt : (S : ℕ) (p : Statement) (x : State) (E U : ℕ) {v : CappedRows} → Answered p x E (U union only S) v
     → Answers (Unit {0}) E U (list (signal S p) x) (Below (signal S p) x) (changeRows (localRows S) v)
 unfolding list needs
 attempt S p x E U a =
@@ -57,7 +57,7 @@ known : (E F : ℕ) (f : ℕ → ℕ) → Agree 0 E F → Agree 0 (f E) (f F)
 known E F f a S h = ap (λ (z : ℕ). has (f z) S) (ext E F (λ y. a y (has-empty y)))
 
 -- twice, with S present and with S absent
-twice : (S : ℕ) (p : Statement) (x : State) (E : ℕ) {v w : Capped} → Answered p x (E union only S) 0 v → Answered p x (E without S) 0 w
+twice : (S : ℕ) (p : Statement) (x : State) (E : ℕ) {v w : CappedRows} → Answered p x (E union only S) 0 v → Answered p x (E without S) 0 w
     → Answers (Due (signal S p) x E 0) E 0 (list (signal S p) x) (Below (signal S p) x) (twiceRows S v w)
 unfolding twiceRows list needs
 twice S p x E {v} a b =
@@ -73,7 +73,7 @@ twice S p x E {v} a b =
         (λ F c. lists-hide S (lists-anywhere F (k .proper) (k .lists (F union only S) (known E F (λ z. z union only S) c)))) (λ F c. k .quiet (F union only S) (known E F (λ z. z union only S) c))
         (λ r m. sorted-in r (hide S (list p x (E union only S)) ++ list p x (E without S)) (append-left r (hide S (list p x (E union only S))) (list p x (E without S)) m)))
 
-signal-any : (S : ℕ) (p : Statement) (x : State) (E U : ℕ) (v w u t : Capped) → Answered p x E (U union only S) v → Answered p x (E union only S) 0 w → Answered p x (E without S) 0 u
+signal-any : (S : ℕ) (p : Statement) (x : State) (E U : ℕ) (v w u t : CappedRows) → Answered p x E (U union only S) v → Answered p x (E union only S) 0 w → Answered p x (E without S) 0 u
     → Answered p x E U t
     → Answered (signal S p) x E U (cond (names S p) (otherwise (changeRows (localRows S) v) (cond (eqb U 0) (twiceRows S w u) none)) t)
 signal-any S p x E U v w u t a b c d =
@@ -88,7 +88,7 @@ signal-any S p x E U v w u t a b c d =
 
 -- ---- all kinds
 answered : (p : Statement) (x : State) (E U : ℕ) → Answered p x E U (cappedRows p x E U)
-unfolding cappedRows rows needs list
+unfolding cappedRows rowsOf needs list
 answered nothing start E U = leaf nothing start E U (omega arith) (λ F. refl)
 answered nothing (resumed X) E U = leaf nothing (resumed X) E U (omega arith) (λ F. refl)
 answered (pause l) start E U = leaf (pause l) start E U (omega arith) (λ F. refl)
@@ -124,8 +124,8 @@ told p x E U ws e = go (subst (Answered p x E U) e (answered p x E U))
     go (tells t) = t
 
 -- they are rows of the statement
-pub capped-rows-of : (p : Statement) (x : State) (E U : ℕ) (ws : List Row) → cappedRows p x E U ≡ some ws → RowsOf p x E U ws
-capped-rows-of p x E U ws e = let t = told p x E U ws e in record { proper = t .proper; lists = t .lists }
+pub capped-rows-are : (p : Statement) (x : State) (E U : ℕ) (ws : List Row) → cappedRows p x E U ≡ some ws → AreRows p x E U ws
+capped-rows-are p x E U ws e = let t = told p x E U ws e in record { proper = t .proper; lists = t .lists }
 
 -- in order, each once, and at most 64
 pub capped-rows-rising : (p : Statement) (x : State) (E U : ℕ) (ws : List Row) → cappedRows p x E U ≡ some ws → RisingRows ws
@@ -137,7 +137,7 @@ capped-rows-short p x E U ws e = told p x E U ws e .short
 -- so those that hold under F are the listing under F
 pub capped-rows-list : (p : Statement) (x : State) (E U : ℕ) (ws : List Row) → cappedRows p x E U ≡ some ws → (F : ℕ) → Agree U E F → sorted (under F ws) ≡ listing p x F
 unfolding listing
-capped-rows-list p x E U ws e F a = of-list (capped-rows-of p x E U ws e) F a
+capped-rows-list p x E U ws e F a = of-list (capped-rows-are p x E U ws e) F a
 
 -- and refusal 15 is not due under F
 pub capped-rows-quiet : (p : Statement) (x : State) (E U : ℕ) (ws : List Row) → cappedRows p x E U ≡ some ws → (F : ℕ) → Agree U E F → crowded p x F ≡ false
@@ -148,7 +148,7 @@ pub capped-rows-exact : (p : Statement) (x : State) (E : ℕ) → reactionsIn (c
 unfolding listing reactionsIn
 capped-rows-exact p x E = go (answered p x E 0)
   where
-    go : {v : Capped} → Answered p x E 0 v → reactionsIn v ≡ cond (crowded p x E) none (some (list p x E))
+    go : {v : CappedRows} → Answered p x E 0 v → reactionsIn v ≡ cond (crowded p x E) none (some (list p x E))
     go (wants d) = ap (λ b. cond b none (some (list p x E))) (sym (d refl))
     go (tells {ws = ws} t) =
         let h : reactions ws ≡ list p x E = sym (sorted-of-rising (reactions ws) (rising-reactions (t .rising) (t .proper))) ∙ of-all (record { proper = t .proper; lists = t .lists }) in

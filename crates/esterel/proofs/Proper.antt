@@ -13,7 +13,7 @@ use Rattle.esterel.specs.Codes.{through}
 use Rattle.esterel.specs.Reactions.{Reaction}
 use Rattle.esterel.specs.Listing.{Listed, reaction, pair}
 use Rattle.esterel.specs.inner.Conditions.{Condition, condition, always, both, clashes, forget}
-use Rattle.esterel.specs.inner.Rows.{Row, row, sure, onlyRows, eachRow, given, then, tested, asked, emitRows, hidden, localRow, localRows, followRows, togetherRows, goingRows, caughtRows}
+use Rattle.esterel.specs.inner.Rows.{Row, rowWhen, sure, onlyRows, eachRow, given, then, tested, asked, emitRows, hidden, localRow, localRows, followRows, togetherRows, goingRows, caughtRows}
 use Rattle.esterel.specs.inner.CappedRows.{beforeRow, insertRow, sortedRows, hideRows}
 use Rattle.esterel.proofs.Conditions.{either, in-left, in-right, other, union-within-both}
 
@@ -83,8 +83,8 @@ proper-given : {U O Q : ℕ} {ws : List Row} (c : Condition) → Within (c .on) 
     → ((S : ℕ) → has U S ≡ true → has Q S ≡ true → has (O union c .on) S ≡ true) → All (Proper U Q) ws → All (Proper U O) (given c ws)
 unfolding given both
 proper-given {U} {O} {Q} c a b f h =
-    all-each (λ w. onlyRows (not (clashes (both c (w .when)))) (row (both c (w .when)) (w .reacts) ∷ []))
-    (λ w k. by-cond (All (Proper U O)) (not (clashes (both c (w .when)))) (row (both c (w .when)) (w .reacts) ∷ []) [] (λ e. more (record {
+    all-each (λ w. onlyRows (not (clashes (both c (w .when)))) (rowWhen (both c (w .when)) (w .reacts) ∷ []))
+    (λ w k. by-cond (All (Proper U O)) (not (clashes (both c (w .when)))) (rowWhen (both c (w .when)) (w .reacts) ∷ []) [] (λ e. more (record {
       ons = union-within-both (c .on) (w .when .on) U a (k .ons);
       offs = union-within-both (c .off) (w .when .off) U b (k .offs);
       apart = not-clashing (both c (w .when)) e;
@@ -108,7 +108,7 @@ alone S U e x m = subst (λ (z : ℕ). has U z ≡ true) (has-only-equal S x m) 
 pub proper-emit : (S E U : ℕ) → All (Proper U 0) (emitRows S E U)
 unfolding emitRows always
 proper-emit S E U =
-    by-cond (All (Proper U 0)) (has U S) (row (condition (only S) 0) (reaction (only S) 0 0) ∷ []) (onlyRows (has E S) (sure (reaction (only S) 0 0)))
+    by-cond (All (Proper U 0)) (has U S) (rowWhen (condition (only S) 0) (reaction (only S) 0 0) ∷ []) (onlyRows (has E S) (sure (reaction (only S) 0 0)))
     (λ e. more (record { ons = alone S U e; offs = within-none U; apart = λ x h. has-empty x; emits = λ x u h. in-right 0 (only S) x h }) none)
     (λ e. all-cond (has E S) (more (record {
       ons = within-none U;
@@ -132,8 +132,8 @@ pub proper-local : (S U : ℕ) {ws : List Row} → All (Proper (U union only S) 
 unfolding localRows localRow forget
 proper-local S U h =
     all-each (localRow S)
-    (λ w k. by-cond (All (Proper U 0)) (has (w .reacts .emitted) S) (row (forget S (w .when)) (hidden S (w .reacts)) ∷ [])
-    (onlyRows (not (has (w .when .on) S)) (row (forget S (w .when)) (w .reacts) ∷ []))
+    (λ w k. by-cond (All (Proper U 0)) (has (w .reacts .emitted) S) (rowWhen (forget S (w .when)) (hidden S (w .reacts)) ∷ [])
+    (onlyRows (not (has (w .when .on) S)) (rowWhen (forget S (w .when)) (w .reacts) ∷ []))
     (λ e. more (record {
       ons = outer (w .when .on) (k .ons);
       offs = outer (w .when .off) (k .offs);
@@ -159,7 +159,7 @@ proper-local S U h =
 pub proper-hide : (S : ℕ) {U : ℕ} {ws : List Row} → All (Proper U 0) ws → All (Proper U 0) (hideRows S ws)
 unfolding hideRows
 proper-hide S h =
-    all-each (λ w. onlyRows (has (w .reacts .emitted) S) (row (w .when) (hidden S (w .reacts)) ∷ []))
+    all-each (λ w. onlyRows (has (w .reacts .emitted) S) (rowWhen (w .when) (hidden S (w .reacts)) ∷ []))
     (λ w k. all-cond (has (w .reacts .emitted) S) (more (record {
       ons = k .ons;
       offs = k .offs;

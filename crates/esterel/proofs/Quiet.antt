@@ -15,14 +15,14 @@ use Rattle.esterel.specs.Statement.{Statement, nothing, pause, gotopause
 use Rattle.esterel.specs.Reactions.{State, start, resumed, Reaction}
 use Rattle.esterel.specs.Listing.{Listed, Rising, before, insert, sorted, one, onlyIf, list, Request, request, someEnds, needs, some, crowded}
 use Rattle.esterel.specs.inner.Conditions.{holds}
-use Rattle.esterel.specs.inner.Rows.{Row, under, reactions, rows, Agree, Few, Quiet}
+use Rattle.esterel.specs.inner.Rows.{Row, under, reactions, rowsOf, Agree, Few, Quiet}
 use Rattle.esterel.proofs.Order.{ltb-yes, sorted-in, sorted-rising, rising-shorter}
 use Rattle.esterel.proofs.Listing.{list-rising}
 use Rattle.esterel.proofs.Needed.{crowded-step}
 use Rattle.esterel.proofs.Conditions.{added}
 use Rattle.esterel.proofs.Rows.{Lists}
 use Rattle.esterel.proofs.Ends.{ends-of}
-use Rattle.esterel.proofs.Unknown.{agree-inside, rows-of}
+use Rattle.esterel.proofs.Unknown.{agree-inside, rows-are}
 
 -- ---- lengths
 
@@ -58,10 +58,10 @@ shorter F ws ts h f =
 pub few : (E U : ℕ) (ws : List Row) → length ws ≤ 64 → Few E U ws
 few E U ws h = (ws, h, λ F a r m. m)
 
-few-listed : (p : Statement) (x : State) (E U F : ℕ) → Agree U E F → Few E U (rows p x E U) → length (list p x F) ≤ 64
+few-listed : (p : Statement) (x : State) (E U F : ℕ) → Agree U E F → Few E U (rowsOf p x E U) → length (list p x F) ≤ 64
 few-listed p x E U F a q =
     let (vs, n, f) = q in
-    let i = shorter F vs (list p x F) (list-rising p x F) (λ r m. f F a r (rows-of p x E U .lists F a .back r m)) in
+    let i = shorter F vs (list p x F) (list-rising p x F) (λ r m. f F a r (rows-are p x E U .lists F a .back r m)) in
     omega arith
 
 -- ---- ends
@@ -127,12 +127,12 @@ quiet (present S p q) (resumed X) E U F a h =
 quiet (sequence p q) start E U F a h =
     calm (sequence p q) start F (few-listed (sequence p q) start E U F a (h .0))
     (some-more (request p start F) (cond (someEnds (list p start F)) (request q start F ∷ []) []) (quiet p start E U F a (h .1))
-    (some-if (request q start F) (someEnds (list p start F)) (λ e. quiet q start E U F a (h .2 (lists-ends (rows-of p start E U .lists F a) e)))))
+    (some-if (request q start F) (someEnds (list p start F)) (λ e. quiet q start E U F a (h .2 (lists-ends (rows-are p start E U .lists F a) e)))))
 quiet (sequence p q) (resumed X) E U F a h =
     calm (sequence p q) (resumed X) F (few-listed (sequence p q) (resumed X) E U F a (h .0))
     (some-more (request p (resumed X) F) (request q (resumed X) F ∷ cond (someEnds (list p (resumed X) F)) (request q start F ∷ []) []) (quiet p (resumed X) E U F a (h .1))
     (some-more (request q (resumed X) F) (cond (someEnds (list p (resumed X) F)) (request q start F ∷ []) []) (quiet q (resumed X) E U F a (h .2))
-    (some-if (request q start F) (someEnds (list p (resumed X) F)) (λ e. quiet q start E U F a (h .3 (lists-ends (rows-of p (resumed X) E U .lists F a) e))))))
+    (some-if (request q start F) (someEnds (list p (resumed X) F)) (λ e. quiet q start E U F a (h .3 (lists-ends (rows-are p (resumed X) E U .lists F a) e))))))
 quiet (parallel p q) x E U F a h =
     calm (parallel p q) x F (few-listed (parallel p q) x E U F a (h .0))
     (some-more (request p x F) (request q x F ∷ []) (quiet p x E U F a (h .1)) (some-more (request q x F) [] (quiet q x E U F a (h .2)) refl))
@@ -140,5 +140,5 @@ quiet (loop p) start E U F a h = calm (loop p) start F (few-listed (loop p) star
 quiet (loop p) (resumed X) E U F a h =
     calm (loop p) (resumed X) F (few-listed (loop p) (resumed X) E U F a (h .0))
     (some-more (request p (resumed X) F) (cond (someEnds (list p (resumed X) F)) (request p start F ∷ []) []) (quiet p (resumed X) E U F a (h .1))
-    (some-if (request p start F) (someEnds (list p (resumed X) F)) (λ e. quiet p start E U F a (h .2 (lists-ends (rows-of p (resumed X) E U .lists F a) e)))))
+    (some-if (request p start F) (someEnds (list p (resumed X) F)) (λ e. quiet p start E U F a (h .2 (lists-ends (rows-are p (resumed X) E U .lists F a) e)))))
 quiet (try p) x E U F a h = calm (try p) x F (few-listed (try p) x E U F a (h .0)) (some-more (request p x F) [] (quiet p x E U F a (h .1)) refl)

@@ -82,8 +82,8 @@ row-same w v a b =
     let j : before (v .reacts) (w .reacts) ≡ false = not-true (before (v .reacts) (w .reacts)) (λ k. clash (or-left _ k) b) in
     let t : w .reacts ≡ v .reacts = same-if (w .reacts) (v .reacts) i j in
     let c : w .when ≡ v .when = condition-same (w .when) (v .when)
-        (last (before (w .reacts) (v .reacts)) (before (v .reacts) (w .reacts)) (beforeCondition (w .when) (v .when)) j a)
-        (last (before (v .reacts) (w .reacts)) (before (w .reacts) (v .reacts)) (beforeCondition (v .when) (w .when)) i b) in
+    (last (before (w .reacts) (v .reacts)) (before (v .reacts) (w .reacts)) (beforeCondition (w .when) (v .when)) j a)
+    (last (before (v .reacts) (w .reacts)) (before (w .reacts) (v .reacts)) (beforeCondition (v .when) (w .when)) i b) in
     λ i. record { when = c i; reacts = t i }
   where
     last : (b r c : Bool) → r ≡ false → (b || (not r && c)) ≡ false → c ≡ false

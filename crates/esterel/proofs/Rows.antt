@@ -12,7 +12,7 @@ use Rattle.esterel.specs.Codes.{through}
 use Rattle.esterel.specs.Reactions.{Reaction}
 use Rattle.esterel.specs.Listing.{Listed, reaction, sorted, one, onlyIf, each, hide, follow, pair, together, going, caught}
 use Rattle.esterel.specs.inner.Conditions.{Condition, condition, always, holds, both, clashes, forget}
-use Rattle.esterel.specs.inner.Rows.{Row, row, sure, onlyRows, under, eachRow, given, then, tested, asked, emitRows, hidden, localRow, localRows, followRows, togetherRows, goingRows, caughtRows, Gives}
+use Rattle.esterel.specs.inner.Rows.{Row, rowWhen, sure, onlyRows, under, eachRow, given, then, tested, asked, emitRows, hidden, localRow, localRows, followRows, togetherRows, goingRows, caughtRows, Gives}
 use Rattle.esterel.specs.inner.CappedRows.{sortedRows, hideRows}
 use Rattle.esterel.proofs.Order.{append-left, append-right, append-cases, each-in, each-out, sorted-in, sorted-out}
 use Rattle.esterel.proofs.Listing.{split}
@@ -29,12 +29,12 @@ under-append F (w ∷ ws) vs =
     ap (λ ts. onlyIf (holds (w .when) F) (one (w .reacts)) ++ ts) (under-append F ws vs)
     ∙ sym (append-assoc (onlyIf (holds (w .when) F) (one (w .reacts))) (under F ws) (under F vs))
 
-under-row : (F : ℕ) (c : Condition) (r : Reaction) → under F (row c r ∷ []) ≡ onlyIf (holds c F) (one r)
+under-row : (F : ℕ) (c : Condition) (r : Reaction) → under F (rowWhen c r ∷ []) ≡ onlyIf (holds c F) (one r)
 unfolding under
 under-row F c r = append-nil (onlyIf (holds c F) (one r))
 
 -- one row, kept or not
-under-kept : (F : ℕ) (b : Bool) (c : Condition) (r : Reaction) → under F (onlyRows b (row c r ∷ [])) ≡ onlyIf (b && holds c F) (one r)
+under-kept : (F : ℕ) (b : Bool) (c : Condition) (r : Reaction) → under F (onlyRows b (rowWhen c r ∷ [])) ≡ onlyIf (b && holds c F) (one r)
 unfolding under
 under-kept F true c r = under-row F c r
 under-kept F false c r = refl
@@ -69,7 +69,7 @@ each-onlyIf false (t ∷ ts) = each-onlyIf false ts
 under-given : (F : ℕ) (c : Condition) (ws : List Row) → under F (given c ws) ≡ onlyIf (holds c F) (under F ws)
 unfolding given
 under-given F c ws =
-    under-each F F ws (λ w. onlyRows (not (clashes (both c (w .when)))) (row (both c (w .when)) (w .reacts) ∷ [])) (λ r. onlyIf (holds c F) (one r))
+    under-each F F ws (λ w. onlyRows (not (clashes (both c (w .when)))) (rowWhen (both c (w .when)) (w .reacts) ∷ [])) (λ r. onlyIf (holds c F) (one r))
     (λ w. under-kept F (not (clashes (both c (w .when)))) (both c (w .when)) (w .reacts)
     ∙ ap (λ b. onlyIf b (one (w .reacts))) (kept (clashes (both c (w .when))) (both c (w .when)) refl ∙ holds-both c (w .when) F)
     ∙ nested (holds c F) (holds (w .when) F) (one (w .reacts)))
@@ -97,7 +97,7 @@ under-tested S F ws vs =
 under-hide : (S F : ℕ) (ws : List Row) → under F (hideRows S ws) ≡ hide S (under F ws)
 unfolding hideRows hide
 under-hide S F ws =
-    under-each F F ws (λ w. onlyRows (has (w .reacts .emitted) S) (row (w .when) (hidden S (w .reacts)) ∷ []))
+    under-each F F ws (λ w. onlyRows (has (w .reacts .emitted) S) (rowWhen (w .when) (hidden S (w .reacts)) ∷ []))
     (λ r. onlyIf (has (r .emitted) S) (one (hidden S r)))
     (λ w. under-kept F (has (w .reacts .emitted) S) (w .when) (hidden S (w .reacts)) ∙ nested (has (w .reacts .emitted) S) (holds (w .when) F) (one (hidden S (w .reacts))))
 
@@ -118,7 +118,7 @@ under-local S U F w u k =
     nothing-of false = refl
 
     go : (o n y : Bool) → (o ≡ true → y ≡ true) → (y ≡ true → n ≡ false)
-        → under F (cond o (row (forget S (w .when)) (hidden S (w .reacts)) ∷ []) (onlyRows (not y) (row (forget S (w .when)) (w .reacts) ∷ [])))
+        → under F (cond o (rowWhen (forget S (w .when)) (hidden S (w .reacts)) ∷ []) (onlyRows (not y) (rowWhen (forget S (w .when)) (w .reacts) ∷ [])))
         ≡ onlyIf (not n && f) (onlyIf o (one (hidden S (w .reacts)))) ++ onlyIf (not y && f) (one (w .reacts))
     go true n false i j = clash (i refl) refl
     go true true true i j = clash refl (j refl)
@@ -225,7 +225,7 @@ lists-asked {F} {ws} {vs} {ts} {us} S E U a l m =
 pub lists-emit : {F : ℕ} (S E U : ℕ) → (has U S ≡ false → has E S ≡ has F S) → Lists F (emitRows S E U) (onlyIf (has F S) (one (reaction (only S) 0 0)))
 unfolding emitRows
 lists-emit {F} S E U a =
-    by-cond (λ zs. Lists F zs (onlyIf (has F S) (one r))) (has U S) (row (condition (only S) 0) r ∷ []) (onlyRows (has E S) (sure r))
+    by-cond (λ zs. Lists F zs (onlyIf (has F S) (one r))) (has U S) (rowWhen (condition (only S) 0) r ∷ []) (onlyRows (has E S) (sure r))
     (λ u. lists (onlyIf (has F S) (one r)) (under-row F (condition (only S) 0) r ∙ ap (λ b. onlyIf b (one r)) (holds-on S F)) (λ t m. m, λ t m. m))
     (λ u. subst (λ b. Lists F (onlyRows (has E S) (sure r)) (onlyIf b (one r))) (a u) (lists-cond (has E S) lists-sure lists-none))
   where
@@ -256,7 +256,7 @@ pub lists-local : {F : ℕ} {ws : List Row} {ts us : List Reaction} (S U : ℕ) 
 lists-local {F} {ws} {ts} {us} S U u k l m =
     let a = alike-local S U F u k in
     let b = alike-append (hide S (under (F union only S) ws)) (hide S ts) (under (F without S) ws) us
-        (alike-hide S (under (F union only S) ws) ts (l .out, l .back)) (m .out, m .back) in
+    (alike-hide S (under (F union only S) ws) ts (l .out, l .back)) (m .out, m .back) in
     record { out = λ r n. b .0 r (a .0 r n); back = λ r n. a .1 r (b .1 r n) }
 
 pub lists-sorted : {F : ℕ} {ws : List Row} {ts : List Reaction} → Lists F ws ts → Lists F ws (sorted ts)
@@ -288,6 +288,7 @@ unfolding caughtRows caught
 lists-caught l =
     lists-then (λ r. sure (reaction (r .emitted) (through (r .code)) (r .reached))) (λ r. one (reaction (r .emitted) (through (r .code)) (r .reached))) l
     (λ r. lists-sure)
+
 -- ---- row by row
 pub under-out : (F : ℕ) (ws : List Row) (r : Reaction) → Listed r (under F ws) → (w : Row) × Listed w ws × Gives F r w
 unfolding under

@@ -12,11 +12,11 @@ use Rattle.esterel.specs.Statement.{Statement, nothing, pause, gotopause
 use Rattle.esterel.specs.Reactions.{State, Reaction, Derives, Reacts}
 use Rattle.esterel.specs.Reactions as rule
 use Rattle.esterel.specs.Listing.{Listed}
-use Rattle.esterel.specs.inner.Rows.{Row, rows, Agree, Gives, mayEmit}
+use Rattle.esterel.specs.inner.Rows.{Row, rowsOf, Agree, Gives, mayEmit}
 use Rattle.esterel.proofs.Emitting.{emitted-assumed}
 use Rattle.esterel.proofs.Listing.{list-is-listing}
 use Rattle.esterel.proofs.Conditions.{either, in-left, in-right, other}
-use Rattle.esterel.proofs.Unknown.{RowsOf, rows-of, of-members, of-emitted}
+use Rattle.esterel.proofs.Unknown.{AreRows, rows-are, of-members, of-emitted}
 
 -- a reaction emits no others
 abbrev Emits : ℕ → Statement → Type 0
@@ -78,7 +78,7 @@ agree-emitted U E I O a f x h =
     (λ e. a x h ∙ either I O x e (λ k. k) (λ k. either U I x (f x k) (λ u. clash u h) (λ i. i)))
 
 -- the reactions of p to I and what they emit, from one list of rows
-of-free : {p : Statement} {x : State} {E U : ℕ} {ws : List Row} → RowsOf p x E U ws → (I : ℕ) → Agree U E I → (r : Reaction) → Within (r .emitted) (U union I)
+of-free : {p : Statement} {x : State} {E U : ℕ} {ws : List Row} → AreRows p x E U ws → (I : ℕ) → Agree U E I → (r : Reaction) → Within (r .emitted) (U union I)
     → ((w : Row) × Listed w ws × Gives (I union r .emitted) r w) ↔ Reacts p x (I union r .emitted) r
 of-free {p} {x} {E} {U} h I a r f =
     let m = of-members h (I union r .emitted) (agree-emitted U E I (r .emitted) a f) r in
@@ -86,7 +86,7 @@ of-free {p} {x} {E} {U} h I a r f =
     (λ k. n .0 (m .0 k), λ k. m .1 (n .1 k))
 
 -- where every signal that p may emit is unknown or in I, that is all of them
-pub of-emitting : {p : Statement} {x : State} {E U : ℕ} {ws : List Row} → RowsOf p x E U ws → (I : ℕ) → Agree U E I → Within (mayEmit p) (U union I)
+pub of-emitting : {p : Statement} {x : State} {E U : ℕ} {ws : List Row} → AreRows p x E U ws → (I : ℕ) → Agree U E I → Within (mayEmit p) (U union I)
     → (r : Reaction) → ((w : Row) × Listed w ws × Gives (I union r .emitted) r w) ↔ Reacts p x (I union r .emitted) r
 unfolding Reacts
 of-emitting {p} {x} {E} {U} {ws} h I a f r =
@@ -102,5 +102,5 @@ of-emitting {p} {x} {E} {U} {ws} h I a f r =
         go false u e = in-right U I y (sym (a y u) ∙ e)
 
 pub rows-emitting : (p : Statement) (x : State) (E U I : ℕ) → Agree U E I → Within (mayEmit p) (U union I) → (r : Reaction)
-    → ((w : Row) × Listed w (rows p x E U) × Gives (I union r .emitted) r w) ↔ Reacts p x (I union r .emitted) r
-rows-emitting p x E U I a f r = of-emitting (rows-of p x E U) I a f r
+    → ((w : Row) × Listed w (rowsOf p x E U) × Gives (I union r .emitted) r w) ↔ Reacts p x (I union r .emitted) r
+rows-emitting p x E U I a f r = of-emitting (rows-are p x E U) I a f r

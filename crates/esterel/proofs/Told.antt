@@ -15,7 +15,7 @@ use Rattle.esterel.specs.Statement.{Statement}
 use Rattle.esterel.specs.Reactions.{State, Reaction}
 use Rattle.esterel.specs.Listing.{Listed, list, Request, needs, someEnds, own, child, some as some-of, crowded}
 use Rattle.esterel.specs.inner.Rows.{Row, under, reactions, followRows, Agree}
-use Rattle.esterel.specs.inner.CappedRows.{sortedRows, Capped, capRows, collectRows, changeRows, joinRows, thenRows, otherwise}
+use Rattle.esterel.specs.inner.CappedRows.{sortedRows, CappedRows, capRows, collectRows, changeRows, joinRows, thenRows, otherwise}
 use Rattle.esterel.proofs.Order.{ltb-yes, ltb-not, rising-shorter}
 use Rattle.esterel.proofs.Listing.{list-rising}
 use Rattle.esterel.proofs.Needed.{crowded-iff}
@@ -37,7 +37,7 @@ pub record Told (E U : ℕ) (L : ℕ → List Reaction) (N : ℕ → Bool) (ws :
   pub quiet : (F : ℕ) → Agree U E F → N F ≡ false
 
 -- such rows, or none, which says D
-pub data Answers (D : Type 0) (E U : ℕ) (L : ℕ → List Reaction) (N : ℕ → Bool) : Capped → Type 0 where
+pub data Answers (D : Type 0) (E U : ℕ) (L : ℕ → List Reaction) (N : ℕ → Bool) : CappedRows → Type 0 where
   wants : D → Answers D E U L N none
   tells : {ws : List Row} → Told E U L N ws → Answers D E U L N (some ws)
 
@@ -45,7 +45,7 @@ pub data Answers (D : Type 0) (E U : ℕ) (L : ℕ → List Reaction) (N : ℕ �
 abbrev pub Due : Statement → State → ℕ → ℕ → Type 0
 Due p x E U = U ≡ 0 → crowded p x E ≡ true
 
-abbrev pub Answered : Statement → State → ℕ → ℕ → Capped → Type 0
+abbrev pub Answered : Statement → State → ℕ → ℕ → CappedRows → Type 0
 Answered p x E U v = Answers (Due p x E U) E U (list p x) (crowded p x) v
 
 -- some list that p needs is crowded
@@ -86,24 +86,24 @@ collected p x E U {L} {N} ws k l n f =
     over e z =
         let i = ltb-yes 64 (length (sortedRows ws)) e in
         let j = no-longer p x E (sortedRows ws) (sorted-rows-rising ws) (subst (λ (u : ℕ). All (Proper u 0) (sortedRows ws)) z (all-sorted k))
-            (λ r m. f r (lists-sorted-rows (l E (λ S h. refl)) .out r m)) in
+        (λ r m. f r (lists-sorted-rows (l E (λ S h. refl)) .out r m)) in
         crowded-iff p x E .1 (own (omega arith))
 
 -- ---- answers made of answers
 
-pub weaker : {D D′ : Type 0} {E U : ℕ} {L : ℕ → List Reaction} {N : ℕ → Bool} {v : Capped} → (D → D′) → Answers D E U L N v → Answers D′ E U L N v
+pub weaker : {D D′ : Type 0} {E U : ℕ} {L : ℕ → List Reaction} {N : ℕ → Bool} {v : CappedRows} → (D → D′) → Answers D E U L N v → Answers D′ E U L N v
 weaker f (wants d) = wants (f d)
 weaker f (tells t) = tells t
 
 -- the same rows, said of other lists
-pub same-rows : {D D′ : Type 0} {E U : ℕ} {L L′ : ℕ → List Reaction} {N N′ : ℕ → Bool} {v : Capped} → (D → D′) → ((F : ℕ) → Agree U E F → Alike (L F) (L′ F))
+pub same-rows : {D D′ : Type 0} {E U : ℕ} {L L′ : ℕ → List Reaction} {N N′ : ℕ → Bool} {v : CappedRows} → (D → D′) → ((F : ℕ) → Agree U E F → Alike (L F) (L′ F))
     → ((F : ℕ) → Agree U E F → N F ≡ false → N′ F ≡ false) → Answers D E U L N v → Answers D′ E U L′ N′ v
 same-rows f g h (wants d) = wants (f d)
 same-rows f g h (tells t) =
     tells (record { short = t .short; rising = t .rising; proper = t .proper; lists = λ F a. lists-same (t .lists F a) (g F a); quiet = λ F a. h F a (t .quiet F a) })
 
 -- of the lists that it needs, and of its own, which is short
-pub whole : (p : Statement) (x : State) {D : Type 0} {E U : ℕ} {v : Capped} → Answers D E U (list p x) (Below p x) v → Answers D E U (list p x) (crowded p x) v
+pub whole : (p : Statement) (x : State) {D : Type 0} {E U : ℕ} {v : CappedRows} → Answers D E U (list p x) (Below p x) v → Answers D E U (list p x) (crowded p x) v
 whole p x (wants d) = wants d
 whole p x (tells {ws = ws} t) = tells (record {
   short = t .short;
@@ -113,13 +113,13 @@ whole p x (tells {ws = ws} t) = tells (record {
   quiet = λ F a. let i = shorter F ws (list p x F) (list-rising p x F) (t .lists F a .back) in let j = t .short in calm p x F (omega arith) (t .quiet F a);
 })
 
-pub changed : {D D₁ : Type 0} {E U E₁ U₁ : ℕ} {L L₁ : ℕ → List Reaction} {N N₁ : ℕ → Bool} {v : Capped} (f : List Row → List Row) → Answers D₁ E₁ U₁ L₁ N₁ v
+pub changed : {D D₁ : Type 0} {E U E₁ U₁ : ℕ} {L L₁ : ℕ → List Reaction} {N N₁ : ℕ → Bool} {v : CappedRows} (f : List Row → List Row) → Answers D₁ E₁ U₁ L₁ N₁ v
     → (D₁ → D) → ((ws : List Row) → Told E₁ U₁ L₁ N₁ ws → Answers D E U L N (collectRows (f ws))) → Answers D E U L N (changeRows f v)
 unfolding changeRows
 changed f (wants d) g h = wants (g d)
 changed f (tells {ws = ws} t) g h = h ws t
 
-pub joined : {D D₁ D₂ : Type 0} {E U E₁ U₁ E₂ U₂ : ℕ} {L L₁ L₂ : ℕ → List Reaction} {N N₁ N₂ : ℕ → Bool} {v w : Capped} (f : List Row → List Row → List Row)
+pub joined : {D D₁ D₂ : Type 0} {E U E₁ U₁ E₂ U₂ : ℕ} {L L₁ L₂ : ℕ → List Reaction} {N N₁ N₂ : ℕ → Bool} {v w : CappedRows} (f : List Row → List Row → List Row)
     → Answers D₁ E₁ U₁ L₁ N₁ v → Answers D₂ E₂ U₂ L₂ N₂ w → (D₁ → D) → (D₂ → D)
     → ((ws vs : List Row) → Told E₁ U₁ L₁ N₁ ws → Told E₂ U₂ L₂ N₂ vs → Answers D E U L N (collectRows (f ws vs))) → Answers D E U L N (joinRows f v w)
 unfolding joinRows
@@ -128,7 +128,7 @@ joined f (tells t) (wants d) g h k = wants (h d)
 joined f (tells {ws = ws} t) (tells {ws = vs} u) g h k = k ws vs t u
 
 -- what follows is asked for only where a row ends, and with no signal unknown that row is listed
-pub followed : {D D₁ D₂ : Type 0} {E U : ℕ} {L L₁ L₂ : ℕ → List Reaction} {N N₁ N₂ : ℕ → Bool} {v w : Capped} → Answers D₁ E U L₁ N₁ v → Answers D₂ E U L₂ N₂ w
+pub followed : {D D₁ D₂ : Type 0} {E U : ℕ} {L L₁ L₂ : ℕ → List Reaction} {N N₁ N₂ : ℕ → Bool} {v w : CappedRows} → Answers D₁ E U L₁ N₁ v → Answers D₂ E U L₂ N₂ w
     → (D₁ → D) → ((U ≡ 0 → someEnds (L₁ E) ≡ true) → D₂ → D)
     → ((ws vs : List Row) → Told E U L₁ N₁ ws → Told E U L₂ N₂ vs → Answers D E U L N (collectRows (followRows ws vs)))
     → ((F : ℕ) → Agree U E F → someEnds (L₁ F) ≡ false → Alike (L₁ F) (L F)) → ((F : ℕ) → Agree U E F → someEnds (L₁ F) ≡ false → N₁ F ≡ false → N F ≡ false)
@@ -147,7 +147,7 @@ followed {D} {E = E} {U = U} {L = L} {L₁ = L₁} {N = N} {w = w} (tells {ws = 
     endless F c e = not-true (someEnds (L₁ F)) (λ y. clash (lists-ends (t .lists F c) y) e)
 
 -- an attempt, and what is made where it gives up
-pub instead : {D : Type 0} {E U : ℕ} {L : ℕ → List Reaction} {N : ℕ → Bool} {v w : Capped} → Answers (Unit {0}) E U L N v → Answers D E U L N w → Answers D E U L N (otherwise v w)
+pub instead : {D : Type 0} {E U : ℕ} {L : ℕ → List Reaction} {N : ℕ → Bool} {v w : CappedRows} → Answers (Unit {0}) E U L N v → Answers D E U L N w → Answers D E U L N (otherwise v w)
 unfolding otherwise
 instead (wants d) b = b
 instead (tells t) b = tells t

@@ -16,7 +16,7 @@ use Rattle.esterel.specs.Statement.{Statement, nothing, pause, gotopause
 use Rattle.esterel.specs.Reactions.{State, start, resumed, Reaction, Reacts}
 use Rattle.esterel.specs.Listing.{Listed, Before, Rising, sorted, one, onlyIf, list}
 use Rattle.esterel.specs.inner.Conditions.{always, holds}
-use Rattle.esterel.specs.inner.Rows.{Row, under, reactions, rows, Agree, Gives}
+use Rattle.esterel.specs.inner.Rows.{Row, under, reactions, rowsOf, Agree, Gives}
 use Rattle.esterel.proofs.Unnamed.{SameBut}
 use Rattle.esterel.proofs.Emitting.{emitted-assumed}
 use Rattle.esterel.proofs.Order.{sorted-in, sorted-out, sorted-rising, same-list}
@@ -29,12 +29,12 @@ use Rattle.esterel.proofs.Rows.{Lists, lists-none, lists-sure, lists-co
 -- ---- rows of a statement
 
 -- they list it, whatever the unknown signals are
-pub record RowsOf (p : Statement) (x : State) (E U : ℕ) (ws : List Row) : Type 0 where
+pub record AreRows (p : Statement) (x : State) (E U : ℕ) (ws : List Row) : Type 0 where
   pub proper : All (Proper U 0) ws
   pub lists : (F : ℕ) → Agree U E F → Lists F ws (list p x F)
 
-rows-proper : (p : Statement) (x : State) (E U : ℕ) → All (Proper U 0) (rows p x E U)
-unfolding rows
+rows-proper : (p : Statement) (x : State) (E U : ℕ) → All (Proper U 0) (rowsOf p x E U)
+unfolding rowsOf
 rows-proper nothing start E U = silent
 rows-proper nothing (resumed X) E U = none
 rows-proper (pause l) start E U = silent
@@ -70,8 +70,8 @@ agree-inside S U E F G a s x h = go (ℕ-discrete S x)
     go (yes e) = clash (subst (λ (z : ℕ). has (U union only S) z ≡ true) e (in-right U (only S) S (has-only S))) h
     go (no n) = a x outer ∙ s x n
 
-rows-lists : (p : Statement) (x : State) (E U F : ℕ) → Agree U E F → Lists F (rows p x E U) (list p x F)
-unfolding rows list
+rows-lists : (p : Statement) (x : State) (E U F : ℕ) → Agree U E F → Lists F (rowsOf p x E U) (list p x F)
+unfolding rowsOf list
 rows-lists nothing start E U F a = lists-sure
 rows-lists nothing (resumed X) E U F a = lists-none
 rows-lists (pause l) start E U F a = lists-sure
@@ -101,19 +101,19 @@ rows-lists (loop p) start E U F a = lists-sorted (lists-going (rows-lists p star
 rows-lists (loop p) (resumed X) E U F a = lists-sorted (lists-going (lists-follow (rows-lists p (resumed X) E U F a) (rows-lists p start E U F a)))
 rows-lists (try p) x E U F a = lists-sorted (lists-caught (rows-lists p x E U F a))
 
-pub rows-of : (p : Statement) (x : State) (E U : ℕ) → RowsOf p x E U (rows p x E U)
-rows-of p x E U = record { proper = rows-proper p x E U; lists = rows-lists p x E U }
+pub rows-are : (p : Statement) (x : State) (E U : ℕ) → AreRows p x E U (rowsOf p x E U)
+rows-are p x E U = record { proper = rows-proper p x E U; lists = rows-lists p x E U }
 
 -- ---- the listing, from rows
 
-pub of-list : {p : Statement} {x : State} {E U : ℕ} {ws : List Row} → RowsOf p x E U ws → (F : ℕ) → Agree U E F → sorted (under F ws) ≡ list p x F
+pub of-list : {p : Statement} {x : State} {E U : ℕ} {ws : List Row} → AreRows p x E U ws → (F : ℕ) → Agree U E F → sorted (under F ws) ≡ list p x F
 of-list {p} {x} {ws = ws} h F a =
     let l = h .lists F a in
     same-list (sorted (under F ws)) (list p x F) (sorted-rising (under F ws)) (list-rising p x F)
     (λ r m. l .out r (sorted-out r (under F ws) m)) (λ r m. sorted-in r (under F ws) (l .back r m))
 
 -- a reaction is listed under F exactly where a row gives it under F
-pub of-members : {p : Statement} {x : State} {E U : ℕ} {ws : List Row} → RowsOf p x E U ws → (F : ℕ) → Agree U E F → (r : Reaction)
+pub of-members : {p : Statement} {x : State} {E U : ℕ} {ws : List Row} → AreRows p x E U ws → (F : ℕ) → Agree U E F → (r : Reaction)
     → ((w : Row) × Listed w ws × Gives F r w) ↔ Listed r (list p x F)
 of-members {ws = ws} h F a r =
     let l = h .lists F a in
@@ -163,7 +163,7 @@ rising-reactions h (more {w = w} {ws = ws} k l) = (
     go v (inl b) c d = b
     go v (inr b) c d = absurd (never (subst (λ z. BeforeCondition z always) c (subst (BeforeCondition (w .when)) d (b .1))))
 
-pub of-all : {p : Statement} {x : State} {E : ℕ} {ws : List Row} → RowsOf p x E 0 ws → sorted (reactions ws) ≡ list p x E
+pub of-all : {p : Statement} {x : State} {E : ℕ} {ws : List Row} → AreRows p x E 0 ws → sorted (reactions ws) ≡ list p x E
 of-all {E = E} h = ap sorted (sym (under-all E (h .proper))) ∙ of-list h E (λ S e. refl)
 
 -- the signals of F that are unknown, and of E those that are known
@@ -192,7 +192,7 @@ mixed-agrees U E F x u = sym (has-mixed U E F x ∙ ap (λ b. (has F x && b) || 
     go false false = refl
 
 -- no row is idle: its reaction is listed under some set, so what holds of every listed reaction holds of it
-pub of-live : {p : Statement} {x : State} {E U : ℕ} {ws : List Row} → RowsOf p x E U ws → (w : Row) → Listed w ws
+pub of-live : {p : Statement} {x : State} {E U : ℕ} {ws : List Row} → AreRows p x E U ws → (w : Row) → Listed w ws
     → (F : ℕ) × Agree U E F × (holds (w .when) F ≡ true) × Listed (w .reacts) (list p x F)
 of-live {p} {x} {E} {U} {ws} h w m =
     (F, mixed-agrees U E (w .when .on), held, of-members h F (mixed-agrees U E (w .when .on)) (w .reacts) .0 (w, m, record { held = held; same = refl }))
@@ -211,7 +211,7 @@ of-live {p} {x} {E} {U} {ws} h w m =
         )
 
 -- it emits unknown signals and those of E
-pub of-emitted : {p : Statement} {x : State} {E U : ℕ} {ws : List Row} → RowsOf p x E U ws → (w : Row) → Listed w ws → Within (w .reacts .emitted) (U union E)
+pub of-emitted : {p : Statement} {x : State} {E U : ℕ} {ws : List Row} → AreRows p x E U ws → (w : Row) → Listed w ws → Within (w .reacts .emitted) (U union E)
 unfolding Reacts
 of-emitted {p} {x} {E} {U} h w m y o =
     let (F, a, i, l) = of-live h w m in
@@ -222,7 +222,7 @@ of-emitted {p} {x} {E} {U} h w m y o =
     go false u f = in-right U E y (f u)
 
 -- so where U and E fit in a word of n bits, its condition and what it emits do
-pub of-fit : (n : ℕ) {p : Statement} {x : State} {E U : ℕ} {ws : List Row} → RowsOf p x E U ws → U < 2 ^ n → E < 2 ^ n → (w : Row) → Listed w ws
+pub of-fit : (n : ℕ) {p : Statement} {x : State} {E U : ℕ} {ws : List Row} → AreRows p x E U ws → U < 2 ^ n → E < 2 ^ n → (w : Row) → Listed w ws
     → (w .when .on < 2 ^ n) × (w .when .off < 2 ^ n) × (w .reacts .emitted < 2 ^ n)
 of-fit n {p} {x} {E} {U} h u e w m =
     let k = all-out (h .proper) w m in (
@@ -243,8 +243,8 @@ of-fit n {p} {x} {E} {U} h u e w m =
 
 -- ---- the same of the rows that specs/inner/Rows makes
 
-pub rows-list : (p : Statement) (x : State) (E U F : ℕ) → Agree U E F → sorted (under F (rows p x E U)) ≡ list p x F
-rows-list p x E U F a = of-list (rows-of p x E U) F a
+pub rows-list : (p : Statement) (x : State) (E U F : ℕ) → Agree U E F → sorted (under F (rowsOf p x E U)) ≡ list p x F
+rows-list p x E U F a = of-list (rows-are p x E U) F a
 
-pub rows-all : (p : Statement) (x : State) (E : ℕ) → sorted (reactions (rows p x E 0)) ≡ list p x E
-rows-all p x E = of-all (rows-of p x E 0)
+pub rows-all : (p : Statement) (x : State) (E : ℕ) → sorted (reactions (rowsOf p x E 0)) ≡ list p x E
+rows-all p x E = of-all (rows-are p x E 0)

@@ -14,7 +14,7 @@ use Rattle.esterel.specs.Reactions.{State, start, resumed, Reaction}
 use Rattle.esterel.specs.Trimming.{names}
 use Rattle.esterel.specs.Listing.{reaction, before, someEnds}
 use Rattle.esterel.specs.inner.Conditions.{beforeCondition}
-use Rattle.esterel.specs.inner.Rows.{Row, row, sure, onlyRows, reactions, eachRow, tested, emitRows, hidden, localRows, followRows, togetherRows, goingRows, caughtRows}
+use Rattle.esterel.specs.inner.Rows.{Row, rowWhen, sure, onlyRows, reactions, eachRow, tested, emitRows, hidden, localRows, followRows, togetherRows, goingRows, caughtRows}
 
 -- ---- The order of rows
 
@@ -33,56 +33,56 @@ sortedRows (w ∷ ws) = insertRow w (sortedRows ws)
 
 -- ---- Lists of at most 64 rows
 
-abbrev pub Capped : Type 0
-Capped = Option (List Row)
+abbrev pub CappedRows : Type 0
+CappedRows = Option (List Row)
 
 -- a list of over 64 rows counts as none
-unfoldable pub capRows : List Row → Capped
+unfoldable pub capRows : List Row → CappedRows
 capRows ws = cond (ltb 64 (length ws)) none (some ws)
 
 -- rows in any order, and more than once, as a rising list
-unfoldable pub collectRows : List Row → Capped
+unfoldable pub collectRows : List Row → CappedRows
 collectRows ws = capRows (sortedRows ws)
 
 -- the reactions of the rows
-unfoldable pub reactionsIn : Capped → Option (List Reaction)
+unfoldable pub reactionsIn : CappedRows → Option (List Reaction)
 reactionsIn none = none
 reactionsIn (some ws) = some (reactions ws)
 
 -- one list changed; two lists made one
-unfoldable pub changeRows : (List Row → List Row) → Capped → Capped
+unfoldable pub changeRows : (List Row → List Row) → CappedRows → CappedRows
 changeRows f none = none
 changeRows f (some ws) = collectRows (f ws)
 
-unfoldable pub joinRows : (List Row → List Row → List Row) → Capped → Capped → Capped
+unfoldable pub joinRows : (List Row → List Row → List Row) → CappedRows → CappedRows → CappedRows
 joinRows f none w = none
 joinRows f (some ws) none = none
 joinRows f (some ws) (some vs) = collectRows (f ws vs)
 
 -- what follows is needed only where some row has a code 0
-unfoldable pub thenRows : Capped → Capped → Capped
+unfoldable pub thenRows : CappedRows → CappedRows → CappedRows
 thenRows none w = none
 thenRows (some ws) w = cond (someEnds (reactions ws)) (joinRows followRows (some ws) w) (some ws)
 
 -- p || q resumed: one part alone where the state has no label of a pause in the other
-unfoldable pub besideRows : Bool → Bool → Capped → Capped → Capped
+unfoldable pub besideRows : Bool → Bool → CappedRows → CappedRows → CappedRows
 besideRows notP notQ v w = cond notP w (cond notQ v (joinRows togetherRows v w))
 
 -- the second where the first gave up
-unfoldable pub otherwise : Capped → Capped → Capped
+unfoldable pub otherwise : CappedRows → CappedRows → CappedRows
 otherwise none w = w
 otherwise (some ws) w = some ws
 
 -- rule signal+, for a body listed with S present: those that emit S, without it
 unfoldable pub hideRows : ℕ → List Row → List Row
-hideRows S ws = eachRow ws (λ w. onlyRows (has (w .reacts .emitted) S) (row (w .when) (hidden S (w .reacts)) ∷ []))
+hideRows S ws = eachRow ws (λ w. onlyRows (has (w .reacts .emitted) S) (rowWhen (w .when) (hidden S (w .reacts)) ∷ []))
 
 -- the two lists of a body, with S present and with S absent, as one
-unfoldable pub twiceRows : ℕ → Capped → Capped → Capped
+unfoldable pub twiceRows : ℕ → CappedRows → CappedRows → CappedRows
 twiceRows S v w = joinRows _++_ (changeRows (hideRows S) v) w
 
 -- p in the state x, where the signals of U are unknown and E says which others are present
-unfoldable pub cappedRows : Statement → State → ℕ → ℕ → Capped
+unfoldable pub cappedRows : Statement → State → ℕ → ℕ → CappedRows
 cappedRows nothing start E U = some (sure (reaction 0 0 0))
 cappedRows nothing (resumed X) E U = some []
 cappedRows (pause l) start E U = some (sure (reaction 0 1 (only l)))

@@ -20,12 +20,12 @@ pub record Row : Type 0 where
   pub when : Condition
   pub reacts : Reaction
 
-abbrev pub row : Condition → Reaction → Row
-row c r = record { when = c; reacts = r }
+abbrev pub rowWhen : Condition → Reaction → Row
+rowWhen c r = record { when = c; reacts = r }
 
 -- the one row of a reaction, whatever the unknown signals are
 abbrev pub sure : Reaction → List Row
-sure r = row always r ∷ []
+sure r = rowWhen always r ∷ []
 
 abbrev pub onlyRows : Bool → List Row → List Row
 onlyRows b ws = cond b ws []
@@ -47,7 +47,7 @@ eachRow (w ∷ ws) f = f w ++ eachRow ws f
 
 -- the rows with c joined to their conditions, but for those that it clashes with
 unfoldable pub given : Condition → List Row → List Row
-given c ws = eachRow ws (λ w. onlyRows (not (clashes (both c (w .when)))) (row (both c (w .when)) (w .reacts) ∷ []))
+given c ws = eachRow ws (λ w. onlyRows (not (clashes (both c (w .when)))) (rowWhen (both c (w .when)) (w .reacts) ∷ []))
 
 -- what f gives for each reaction, under the conditions of both: every rule that joins a reaction to others
 unfoldable pub then : List Row → (Reaction → List Row) → List Row
@@ -64,7 +64,7 @@ asked S E U ws vs = cond (has U S) (tested S ws vs) (cond (has E S) ws vs)
 -- rule emit
 unfoldable pub emitRows : ℕ → ℕ → ℕ → List Row
 emitRows S E U =
-    cond (has U S) (row (condition (only S) 0) (reaction (only S) 0 0) ∷ []) (onlyRows (has E S) (sure (reaction (only S) 0 0)))
+    cond (has U S) (rowWhen (condition (only S) 0) (reaction (only S) 0 0) ∷ []) (onlyRows (has E S) (sure (reaction (only S) 0 0)))
 
 -- rule signal+: the reaction without the declared S
 abbrev pub hidden : ℕ → Reaction → Reaction
@@ -74,8 +74,8 @@ hidden S r = reaction (r .emitted without S) (r .code) (r .reached)
 -- where S may be absent
 unfoldable pub localRow : ℕ → Row → List Row
 localRow S w =
-    cond (has (w .reacts .emitted) S) (row (forget S (w .when)) (hidden S (w .reacts)) ∷ [])
-    (onlyRows (not (has (w .when .on) S)) (row (forget S (w .when)) (w .reacts) ∷ []))
+    cond (has (w .reacts .emitted) S) (rowWhen (forget S (w .when)) (hidden S (w .reacts)) ∷ [])
+    (onlyRows (not (has (w .when .on) S)) (rowWhen (forget S (w .when)) (w .reacts) ∷ []))
 
 unfoldable pub localRows : ℕ → List Row → List Row
 localRows S ws = eachRow ws (localRow S)
@@ -95,30 +95,30 @@ unfoldable pub caughtRows : List Row → List Row
 caughtRows ws = then ws (λ r. sure (reaction (r .emitted) (through (r .code)) (r .reached)))
 
 -- the rows of p in the state x, where the signals of U are unknown and E says which others are present
-unfoldable pub rows : Statement → State → ℕ → ℕ → List Row
-rows nothing start E U = sure (reaction 0 0 0)
-rows nothing (resumed X) E U = []
-rows (pause l) start E U = sure (reaction 0 1 (only l))
-rows (pause l) (resumed X) E U = onlyRows (has X l) (sure (reaction 0 0 0))
-rows (gotopause l) start E U = sure (reaction 0 1 (only l))
-rows (gotopause l) (resumed X) E U = []
-rows (emit S) start E U = emitRows S E U
-rows (emit S) (resumed X) E U = []
-rows (exit d) start E U = sure (reaction 0 (codeOf d) 0)
-rows (exit d) (resumed X) E U = []
-rows (signal S p) x E U = localRows S (rows p x E (U union only S))
-rows (present S p q) start E U = asked S E U (rows p start E U) (rows q start E U)
-rows (present S p q) (resumed X) E U = rows p (resumed X) E U ++ rows q (resumed X) E U
-rows (sequence p q) start E U = followRows (rows p start E U) (rows q start E U)
-rows (sequence p q) (resumed X) E U = followRows (rows p (resumed X) E U) (rows q start E U) ++ rows q (resumed X) E U
-rows (parallel p q) start E U = togetherRows (rows p start E U) (rows q start E U)
-rows (parallel p q) (resumed X) E U =
-    let ws = rows p (resumed X) E U in
-    let vs = rows q (resumed X) E U in
+unfoldable pub rowsOf : Statement → State → ℕ → ℕ → List Row
+rowsOf nothing start E U = sure (reaction 0 0 0)
+rowsOf nothing (resumed X) E U = []
+rowsOf (pause l) start E U = sure (reaction 0 1 (only l))
+rowsOf (pause l) (resumed X) E U = onlyRows (has X l) (sure (reaction 0 0 0))
+rowsOf (gotopause l) start E U = sure (reaction 0 1 (only l))
+rowsOf (gotopause l) (resumed X) E U = []
+rowsOf (emit S) start E U = emitRows S E U
+rowsOf (emit S) (resumed X) E U = []
+rowsOf (exit d) start E U = sure (reaction 0 (codeOf d) 0)
+rowsOf (exit d) (resumed X) E U = []
+rowsOf (signal S p) x E U = localRows S (rowsOf p x E (U union only S))
+rowsOf (present S p q) start E U = asked S E U (rowsOf p start E U) (rowsOf q start E U)
+rowsOf (present S p q) (resumed X) E U = rowsOf p (resumed X) E U ++ rowsOf q (resumed X) E U
+rowsOf (sequence p q) start E U = followRows (rowsOf p start E U) (rowsOf q start E U)
+rowsOf (sequence p q) (resumed X) E U = followRows (rowsOf p (resumed X) E U) (rowsOf q start E U) ++ rowsOf q (resumed X) E U
+rowsOf (parallel p q) start E U = togetherRows (rowsOf p start E U) (rowsOf q start E U)
+rowsOf (parallel p q) (resumed X) E U =
+    let ws = rowsOf p (resumed X) E U in
+    let vs = rowsOf q (resumed X) E U in
     togetherRows ws vs ++ (onlyRows (eqb (X intersect pauses q) 0) ws ++ onlyRows (eqb (X intersect pauses p) 0) vs)
-rows (loop p) start E U = goingRows (rows p start E U)
-rows (loop p) (resumed X) E U = goingRows (followRows (rows p (resumed X) E U) (rows p start E U))
-rows (try p) x E U = caughtRows (rows p x E U)
+rowsOf (loop p) start E U = goingRows (rowsOf p start E U)
+rowsOf (loop p) (resumed X) E U = goingRows (followRows (rowsOf p (resumed X) E U) (rowsOf p start E U))
+rowsOf (try p) x E U = caughtRows (rowsOf p x E U)
 
 -- ---- What is said of them
 
@@ -140,26 +140,26 @@ Few E U ws =
 
 -- of its own rows, and of each list of rows that they are made from
 unfoldable pub Quiet : Statement → State → ℕ → ℕ → Type 0
-Quiet nothing x E U = Few E U (rows nothing x E U)
-Quiet (pause l) x E U = Few E U (rows (pause l) x E U)
-Quiet (gotopause l) x E U = Few E U (rows (gotopause l) x E U)
-Quiet (emit S) x E U = Few E U (rows (emit S) x E U)
-Quiet (exit d) x E U = Few E U (rows (exit d) x E U)
-Quiet (signal S p) x E U = Few E U (rows (signal S p) x E U) × Quiet p x E (U union only S)
+Quiet nothing x E U = Few E U (rowsOf nothing x E U)
+Quiet (pause l) x E U = Few E U (rowsOf (pause l) x E U)
+Quiet (gotopause l) x E U = Few E U (rowsOf (gotopause l) x E U)
+Quiet (emit S) x E U = Few E U (rowsOf (emit S) x E U)
+Quiet (exit d) x E U = Few E U (rowsOf (exit d) x E U)
+Quiet (signal S p) x E U = Few E U (rowsOf (signal S p) x E U) × Quiet p x E (U union only S)
 Quiet (present S p q) start E U =
-    Few E U (rows (present S p q) start E U)
+    Few E U (rowsOf (present S p q) start E U)
     × ((has U S || has E S) ≡ true → Quiet p start E U) × ((has U S || not (has E S)) ≡ true → Quiet q start E U)
-Quiet (present S p q) (resumed X) E U = Few E U (rows (present S p q) (resumed X) E U) × Quiet p (resumed X) E U × Quiet q (resumed X) E U
+Quiet (present S p q) (resumed X) E U = Few E U (rowsOf (present S p q) (resumed X) E U) × Quiet p (resumed X) E U × Quiet q (resumed X) E U
 Quiet (sequence p q) start E U =
-    Few E U (rows (sequence p q) start E U) × Quiet p start E U × (someEnds (reactions (rows p start E U)) ≡ true → Quiet q start E U)
+    Few E U (rowsOf (sequence p q) start E U) × Quiet p start E U × (someEnds (reactions (rowsOf p start E U)) ≡ true → Quiet q start E U)
 Quiet (sequence p q) (resumed X) E U =
-    Few E U (rows (sequence p q) (resumed X) E U) × Quiet p (resumed X) E U × Quiet q (resumed X) E U
-    × (someEnds (reactions (rows p (resumed X) E U)) ≡ true → Quiet q start E U)
-Quiet (parallel p q) x E U = Few E U (rows (parallel p q) x E U) × Quiet p x E U × Quiet q x E U
-Quiet (loop p) start E U = Few E U (rows (loop p) start E U) × Quiet p start E U
+    Few E U (rowsOf (sequence p q) (resumed X) E U) × Quiet p (resumed X) E U × Quiet q (resumed X) E U
+    × (someEnds (reactions (rowsOf p (resumed X) E U)) ≡ true → Quiet q start E U)
+Quiet (parallel p q) x E U = Few E U (rowsOf (parallel p q) x E U) × Quiet p x E U × Quiet q x E U
+Quiet (loop p) start E U = Few E U (rowsOf (loop p) start E U) × Quiet p start E U
 Quiet (loop p) (resumed X) E U =
-    Few E U (rows (loop p) (resumed X) E U) × Quiet p (resumed X) E U × (someEnds (reactions (rows p (resumed X) E U)) ≡ true → Quiet p start E U)
-Quiet (try p) x E U = Few E U (rows (try p) x E U) × Quiet p x E U
+    Few E U (rowsOf (loop p) (resumed X) E U) × Quiet p (resumed X) E U × (someEnds (reactions (rowsOf p (resumed X) E U)) ≡ true → Quiet p start E U)
+Quiet (try p) x E U = Few E U (rowsOf (try p) x E U) × Quiet p x E U
 
 -- ---- Emitted signals as unknown
 
