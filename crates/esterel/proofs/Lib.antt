@@ -28,3 +28,4 @@ pub mod UnnamedLists
 pub mod Told
 pub mod CappedArms
 pub mod CappedRows
+pub mod RowExamples
