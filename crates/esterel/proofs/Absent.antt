@@ -1,13 +1,13 @@
 -- A part that the state has no label of: nothing of it is listed, and refusal 15 is not due for it. Every list that it needs is
 -- of a part without a label of the state either, since no list that begins at the start is needed.
 use mathlib.Core.Path.{_≡_, refl, ap, _∙_, subst}
-use mathlib.Core.Logic.{_⊎_, inl, inr}
+use mathlib.Core.Logic.{inl, inr}
 use mathlib.Core.Bool.{false, cond}
 use mathlib.Core.List.{List, [], _∷_}
 use Prim.Native.Nat.{ℕ}
 use native.Mathlib.Omega.{arith}
 use lib.ListN.{length}
-use Rattle.sets.specs.Set.{has, only, _union_, _without_, Apart}
+use Rattle.sets.specs.Set.{only, _union_, _without_, Apart}
 use Rattle.sets.proofs.Booleans.{not-true}
 use Rattle.sets.proofs.Members.{apart-union⁻}
 use Rattle.esterel.specs.Statement.{Statement, nothing, pause, gotopause, emit, exit, signal, present, sequence, parallel, loop, try, pauses}

@@ -2,19 +2,19 @@
 -- proofs/Told.
 use mathlib.Core.Path.{_≡_, refl, sym, ap, _∙_, subst}
 use mathlib.Core.Logic.{inl, inr}
-use mathlib.Core.Bool.{Bool, true, false, cond, _||_}
+use mathlib.Core.Bool.{Bool, true, false, cond}
 use mathlib.Core.List.{List, [], _∷_, _++_}
 use mathlib.Core.Option.{some}
 use Prim.Native.Nat.{ℕ, _≤_}
 use native.Mathlib.Omega.{arith}
 use lib.Dec.{eqb}
 use lib.ListN.{length}
-use Rattle.sets.specs.Set.{has, only, _intersect_, _without_, Apart}
+use Rattle.sets.specs.Set.{has, only, _intersect_, Apart}
 use Rattle.sets.proofs.Booleans.{or-neither, clash, by-cond}
 use Rattle.sets.proofs.Members.{has-empty, test-apart}
 use Rattle.esterel.specs.Statement.{Statement, present, sequence, parallel, loop, try, pauses}
 use Rattle.esterel.specs.Reactions.{State, start, resumed, Reaction}
-use Rattle.esterel.specs.Listing.{Listed, reaction, sorted, onlyIf, each, follow, together, going, list, listing, Request, request, needs, someEnds, some as some-of, crowded}
+use Rattle.esterel.specs.Listing.{Listed, reaction, sorted, onlyIf, each, follow, together, going, list, Request, request, needs, someEnds, some as some-of, crowded}
 use Rattle.esterel.specs.inner.Conditions.{condition}
 use Rattle.esterel.specs.inner.Rows.{Row, rowWhen, sure, onlyRows, tested, emitRows, followRows, togetherRows, goingRows, caughtRows, rowsOf, Agree}
 use Rattle.esterel.specs.inner.CappedRows.{CappedRows, changeRows, joinRows, thenRows, besideRows}

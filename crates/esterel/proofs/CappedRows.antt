@@ -15,7 +15,7 @@ use Rattle.sets.proofs.Members.{has-empty, has-only, ext}
 use Rattle.esterel.specs.Statement.{Statement, nothing, pause, gotopause, emit, exit, signal, present, sequence, parallel, loop, try}
 use Rattle.esterel.specs.Reactions.{State, start, resumed}
 use Rattle.esterel.specs.Trimming.{names}
-use Rattle.esterel.specs.Listing.{reaction, sorted, each, hide, together, list, listing, request, needs, crowded}
+use Rattle.esterel.specs.Listing.{reaction, sorted, hide, together, list, listing, request, needs, crowded}
 use Rattle.esterel.specs.inner.Rows.{Row, under, reactions, localRows, rowsOf, Agree}
 use Rattle.esterel.specs.inner.CappedRows.{CappedRows, reactionsIn, changeRows, otherwise, hideRows, twiceRows, cappedRows}
 use Rattle.esterel.proofs.Order.{append-left, sorted-in, sorted-of-rising}

@@ -12,7 +12,7 @@ use Rattle.esterel.specs.Reactions.{start, reachedTogether}
 use Rattle.esterel.specs.Listing.{reaction, before, insert, sorted, each, pair, together, list, needs, some as some-of, crowdedWithin, crowded}
 use Rattle.esterel.specs.inner.Conditions.{condition, always, both, clashes, forget, beforeCondition}
 use Rattle.esterel.specs.inner.Rows.{rowWhen, eachRow, given, then, tested, asked, emitRows, localRow, localRows, togetherRows, rowsOf, Agree, Quiet}
-use Rattle.esterel.specs.inner.CappedRows.{beforeRow, insertRow, sortedRows, capRows, collectRows, changeRows, joinRows, otherwise, hideRows, twiceRows, cappedRows}
+use Rattle.esterel.specs.inner.CappedRows.{beforeRow, insertRow, sortedRows, capRows, collectRows, changeRows, joinRows, otherwise, cappedRows}
 use Rattle.esterel.proofs.Quiet.{few, quiet}
 
 -- the test of the local signal 0 is settled by its emit, which leaves a condition on the unknown signal 1

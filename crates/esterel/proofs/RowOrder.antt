@@ -1,5 +1,5 @@
 -- The order of rows, by reaction and then by condition: it is total, and sorting by it keeps the rows and gives a rising list.
-use mathlib.Core.Path.{_≡_, refl, sym, ap, ap₂, _∙_, subst}
+use mathlib.Core.Path.{_≡_, refl, sym, ap, _∙_, subst}
 use mathlib.Core.Logic.{_⊎_, inl, inr}
 use mathlib.Core.Bool.{Bool, true, false, cond, not, _&&_, _||_}
 use mathlib.Core.List.{List, [], _∷_}
@@ -12,7 +12,7 @@ use Rattle.esterel.specs.Listing.{Listed, Before, before}
 use Rattle.esterel.specs.inner.Conditions.{Condition, beforeCondition}
 use Rattle.esterel.specs.inner.Rows.{Row}
 use Rattle.esterel.specs.inner.CappedRows.{beforeRow, insertRow, sortedRows}
-use Rattle.esterel.proofs.Order.{ltb-yes, ltb-not, ltb-lt, before-yes, before-is, before-self, before-trans, neither}
+use Rattle.esterel.proofs.Order.{ltb-yes, ltb-not, before-yes, before-is, before-trans, neither}
 
 -- ---- the order
 

@@ -7,7 +7,7 @@ use mathlib.Core.List.{List, [], _∷_, _++_, append-nil, append-assoc}
 use Prim.Native.Nat.{ℕ}
 use lib.Dec.{eqb}
 use Rattle.sets.specs.Set.{has, only, _union_, _without_}
-use Rattle.sets.proofs.Booleans.{not-true, clash, by-cond}
+use Rattle.sets.proofs.Booleans.{clash, by-cond}
 use Rattle.esterel.specs.Codes.{through}
 use Rattle.esterel.specs.Reactions.{Reaction}
 use Rattle.esterel.specs.Listing.{Listed, reaction, sorted, one, onlyIf, each, hide, follow, pair, together, going, caught}

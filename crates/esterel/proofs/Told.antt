@@ -2,14 +2,13 @@
 -- that refusal 15 is then not due; none says a fact. Each way to make capped rows of capped rows keeps that. With no signal unknown
 -- a list of rows is no longer than that of its reactions, so it passes 64 only where refusal 15 is due.
 use mathlib.Core.Path.{_≡_, refl, sym, ap, subst}
-use mathlib.Core.Bool.{Bool, true, false, cond}
+use mathlib.Core.Bool.{Bool, true, false}
 use mathlib.Core.List.{List, [], _∷_}
 use mathlib.Core.Option.{none, some}
 use Prim.Native.Nat.{ℕ, suc, _≤_}
 use native.Mathlib.Omega.{arith}
 use lib.Dec.{ltb}
 use lib.ListN.{length}
-use Rattle.sets.specs.Set.{has}
 use Rattle.sets.proofs.Booleans.{not-true, clash, by-cond}
 use Rattle.esterel.specs.Statement.{Statement}
 use Rattle.esterel.specs.Reactions.{State, Reaction}

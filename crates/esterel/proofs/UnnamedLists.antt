@@ -2,15 +2,14 @@
 -- it needs; so a declaration of it changes neither the listing nor refusal 15.
 use mathlib.Core.Path.{_≡_, refl, sym, ap, ap₂, _∙_}
 use mathlib.Core.Bool.{Bool, true, false, cond, _||_}
-use mathlib.Core.List.{List, [], _∷_}
+use mathlib.Core.List.{[], _∷_}
 use Prim.Native.Nat.{ℕ}
 use lib.Dec.{eqb, ltb}
 use lib.ListN.{length}
 use Rattle.sets.specs.Set.{has, only, _union_, _without_}
 use Rattle.sets.proofs.Booleans.{or-neither, differ-eqb}
-use Rattle.sets.proofs.Members.{has-without-other}
 use Rattle.esterel.specs.Statement.{Statement, nothing, pause, gotopause, emit, exit, signal, present, sequence, parallel, loop, try}
-use Rattle.esterel.specs.Reactions.{State, start, resumed, Reaction, Reacts}
+use Rattle.esterel.specs.Reactions.{State, start, resumed, Reacts}
 use Rattle.esterel.specs.Trimming.{names}
 use Rattle.esterel.specs.Listing.{list, Request, request, needs, someEnds, some, crowded}
 use Rattle.esterel.proofs.Unnamed.{SameBut, same-but-union, same-but-without, unnamed, undeclared, undeclared⁻}
