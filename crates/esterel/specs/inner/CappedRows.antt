@@ -2,7 +2,7 @@
 -- is none exactly where refusal 15 is due, and else the listing; with unknown signals none is giving up, which says nothing of
 -- refusal 15, and rows say that it is not due under any set that agrees with E (proofs/CappedRows).
 use Prim.Native.Nat.{ℕ}
-use mathlib.Core.Bool.{Bool, cond, not, _&&_, _||_}
+use mathlib.Core.Bool.{Bool, cond, _&&_, _||_}
 use mathlib.Core.List.{List, [], _∷_, _++_}
 use mathlib.Core.Option.{Option, none, some}
 use lib.Dec.{eqb, ltb}
@@ -12,15 +12,21 @@ use Rattle.esterel.specs.Statement.{Statement, nothing, pause, gotopause
 use Rattle.esterel.specs.Codes.{codeOf}
 use Rattle.esterel.specs.Reactions.{State, start, resumed, Reaction}
 use Rattle.esterel.specs.Trimming.{names}
-use Rattle.esterel.specs.Listing.{reaction, before, someEnds}
-use Rattle.esterel.specs.inner.Conditions.{beforeCondition}
-use Rattle.esterel.specs.inner.Rows.{Row, rowWhen, sure, onlyRows, reactions, eachRow, tested, emitRows, hidden, localRows, followRows, togetherRows, goingRows, caughtRows}
+use Rattle.esterel.specs.Listing.{reaction, someEnds}
+use Rattle.esterel.specs.inner.Conditions.{slotOf}
+use Rattle.esterel.specs.inner.Rows.{Row, sure, onlyRows, reactions, tested, emitRows, localRows, hideRows, followRows, togetherRows, goingRows, caughtRows}
 
 -- ---- The order of rows
 
--- by reaction, then by condition
+-- a is less than b, or they are the same and c
+unfoldable pub lessOr : ℕ → ℕ → Bool → Bool
+lessOr a b c = ltb a b || (eqb a b && c)
+
+-- by what is emitted, code, condition, and what is reached, as the words are in which rows are kept
 unfoldable pub beforeRow : Row → Row → Bool
-beforeRow w v = before (w .reacts) (v .reacts) || (not (before (v .reacts) (w .reacts)) && beforeCondition (w .when) (v .when))
+beforeRow w v =
+    lessOr (w .reacts .emitted) (v .reacts .emitted) (lessOr (w .reacts .code) (v .reacts .code)
+    (lessOr (w .when .on) (v .when .on) (lessOr (w .when .off) (v .when .off) (ltb (w .reacts .reached) (v .reacts .reached)))))
 
 -- into its place in a rising list, unless it is there
 unfoldable pub insertRow : Row → List Row → List Row
@@ -73,43 +79,39 @@ unfoldable pub otherwise : CappedRows → CappedRows → CappedRows
 otherwise none w = w
 otherwise (some ws) w = some ws
 
--- rule signal+, for a body listed with S present: those that emit S, without it
-unfoldable pub hideRows : ℕ → List Row → List Row
-hideRows S ws = eachRow ws (λ w. onlyRows (has (w .reacts .emitted) S) (rowWhen (w .when) (hidden S (w .reacts)) ∷ []))
-
 -- the two lists of a body, with S present and with S absent, as one
 unfoldable pub twiceRows : ℕ → CappedRows → CappedRows → CappedRows
 twiceRows S v w = joinRows _++_ (changeRows (hideRows S) v) w
 
--- p in the state x, where the signals of U are unknown and E says which others are present
-unfoldable pub cappedRows : Statement → State → ℕ → ℕ → CappedRows
-cappedRows nothing start E U = some (sure (reaction 0 0 0))
-cappedRows nothing (resumed X) E U = some []
-cappedRows (pause l) start E U = some (sure (reaction 0 1 (only l)))
-cappedRows (pause l) (resumed X) E U = some (onlyRows (has X l) (sure (reaction 0 0 0)))
-cappedRows (gotopause l) start E U = some (sure (reaction 0 1 (only l)))
-cappedRows (gotopause l) (resumed X) E U = some []
-cappedRows (emit S) start E U = some (emitRows S E U)
-cappedRows (emit S) (resumed X) E U = some []
-cappedRows (exit d) start E U = some (sure (reaction 0 (codeOf d) 0))
-cappedRows (exit d) (resumed X) E U = some []
--- a signal that its body does not name is no signal; else once with S unknown, and where that gives up and no signal around is
--- unknown, with S present and with S absent
-cappedRows (signal S p) x E U =
+-- p in the state x, where the signals of U, which are in M, are unknown and E says which others are present
+unfoldable pub cappedRows : ℕ → Statement → State → ℕ → ℕ → CappedRows
+cappedRows M nothing start E U = some (sure (reaction 0 0 0))
+cappedRows M nothing (resumed X) E U = some []
+cappedRows M (pause l) start E U = some (sure (reaction 0 1 (only l)))
+cappedRows M (pause l) (resumed X) E U = some (onlyRows (has X l) (sure (reaction 0 0 0)))
+cappedRows M (gotopause l) start E U = some (sure (reaction 0 1 (only l)))
+cappedRows M (gotopause l) (resumed X) E U = some []
+cappedRows M (emit S) start E U = some (emitRows M S E U)
+cappedRows M (emit S) (resumed X) E U = some []
+cappedRows M (exit d) start E U = some (sure (reaction 0 (codeOf d) 0))
+cappedRows M (exit d) (resumed X) E U = some []
+-- a signal that its body does not name is no signal; else once with S unknown, if it is in M; and where it is not, or that gives
+-- up, and no signal around is unknown, with S present and with S absent
+cappedRows M (signal S p) x E U =
     cond (names S p)
-    (otherwise (changeRows (localRows S) (cappedRows p x E (U union only S)))
-    (cond (eqb U 0) (twiceRows S (cappedRows p x (E union only S) 0) (cappedRows p x (E without S) 0)) none))
-    (cappedRows p x E U)
-cappedRows (present S p q) start E U =
-    cond (has U S) (joinRows (tested S) (cappedRows p start E U) (cappedRows q start E U))
-    (cond (has E S) (cappedRows p start E U) (cappedRows q start E U))
-cappedRows (present S p q) (resumed X) E U = joinRows _++_ (cappedRows p (resumed X) E U) (cappedRows q (resumed X) E U)
-cappedRows (sequence p q) start E U = thenRows (cappedRows p start E U) (cappedRows q start E U)
-cappedRows (sequence p q) (resumed X) E U =
-    joinRows _++_ (thenRows (cappedRows p (resumed X) E U) (cappedRows q start E U)) (cappedRows q (resumed X) E U)
-cappedRows (parallel p q) start E U = joinRows togetherRows (cappedRows p start E U) (cappedRows q start E U)
-cappedRows (parallel p q) (resumed X) E U =
-    besideRows (eqb (X intersect pauses p) 0) (eqb (X intersect pauses q) 0) (cappedRows p (resumed X) E U) (cappedRows q (resumed X) E U)
-cappedRows (loop p) start E U = changeRows goingRows (cappedRows p start E U)
-cappedRows (loop p) (resumed X) E U = thenRows (cappedRows p (resumed X) E U) (changeRows goingRows (cappedRows p start E U))
-cappedRows (try p) x E U = changeRows caughtRows (cappedRows p x E U)
+    (otherwise (cond (has M S) (changeRows (localRows S (slotOf M S)) (cappedRows M p x E (U union only S))) none)
+    (cond (eqb U 0) (twiceRows S (cappedRows M p x (E union only S) 0) (cappedRows M p x (E without S) 0)) none))
+    (cappedRows M p x E U)
+cappedRows M (present S p q) start E U =
+    cond (has U S) (joinRows (tested (slotOf M S)) (cappedRows M p start E U) (cappedRows M q start E U))
+    (cond (has E S) (cappedRows M p start E U) (cappedRows M q start E U))
+cappedRows M (present S p q) (resumed X) E U = joinRows _++_ (cappedRows M p (resumed X) E U) (cappedRows M q (resumed X) E U)
+cappedRows M (sequence p q) start E U = thenRows (cappedRows M p start E U) (cappedRows M q start E U)
+cappedRows M (sequence p q) (resumed X) E U =
+    joinRows _++_ (thenRows (cappedRows M p (resumed X) E U) (cappedRows M q start E U)) (cappedRows M q (resumed X) E U)
+cappedRows M (parallel p q) start E U = joinRows togetherRows (cappedRows M p start E U) (cappedRows M q start E U)
+cappedRows M (parallel p q) (resumed X) E U =
+    besideRows (eqb (X intersect pauses p) 0) (eqb (X intersect pauses q) 0) (cappedRows M p (resumed X) E U) (cappedRows M q (resumed X) E U)
+cappedRows M (loop p) start E U = changeRows goingRows (cappedRows M p start E U)
+cappedRows M (loop p) (resumed X) E U = thenRows (cappedRows M p (resumed X) E U) (changeRows goingRows (cappedRows M p start E U))
+cappedRows M (try p) x E U = changeRows caughtRows (cappedRows M p x E U)

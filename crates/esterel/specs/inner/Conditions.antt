@@ -1,10 +1,25 @@
--- Conditions on signals of which it is not known whether they are present.
-use Prim.Native.Nat.{ℕ}
-use mathlib.Core.Bool.{Bool, not, _&&_, _||_}
-use lib.Dec.{eqb, ltb}
-use Rattle.sets.specs.Set.{_union_, _intersect_, _minus_, _without_}
+-- Conditions on signals of which it is not known whether they are present. The signals that may be unknown are those of a set M. They
+-- have slots, and a condition is on slots, so that it takes few bits.
+use Prim.Native.Nat.{ℕ, zero, suc, _+_}
+use mathlib.Core.Bool.{Bool, cond, not, _&&_}
+use lib.Dec.{eqb}
+use Rattle.sets.specs.Set.{has, only, _union_, _intersect_, _minus_, _without_}
 
--- the signals that have to be present, and those that have to be absent
+-- the slot of S: how many members of M are below S. Members of M have different slots (proofs/Slots).
+unfoldable pub slotOf : ℕ → ℕ → ℕ
+slotOf M zero = 0
+slotOf M (suc S) = slotOf M S + cond (has M S) 1 0
+
+-- the slots of the members of M that F has and that are below n
+unfoldable pub seenBelow : ℕ → ℕ → ℕ → ℕ
+seenBelow M F zero = 0
+seenBelow M F (suc S) = seenBelow M F S union cond (has M S && has F S) (only (slotOf M S)) 0
+
+-- what F is to a condition: the slots of the members of M that F has, all of which are below M
+unfoldable pub seen : ℕ → ℕ → ℕ
+seen M F = seenBelow M F M
+
+-- the slots that have to be there, and those that have to be not
 pub record Condition : Type 0 where
   pub on : ℕ
   pub off : ℕ
@@ -15,7 +30,7 @@ condition P N = record { on = P; off = N }
 unfoldable pub always : Condition
 always = condition 0 0
 
--- the set F meets it
+-- the set F of slots meets it
 unfoldable pub holds : Condition → ℕ → Bool
 holds c F = eqb (c .on minus F) 0 && eqb (c .off intersect F) 0
 
@@ -26,10 +41,6 @@ both c d = condition (c .on union d .on) (c .off union d .off)
 unfoldable pub clashes : Condition → Bool
 clashes c = not (eqb (c .on intersect c .off) 0)
 
--- what it says of the signals other than S
+-- what it says of the slots other than s
 unfoldable pub forget : ℕ → Condition → Condition
-forget S c = condition (c .on without S) (c .off without S)
-
--- by the signals that have to be absent, then by the others: the order of words with the former in the upper half
-unfoldable pub beforeCondition : Condition → Condition → Bool
-beforeCondition c d = ltb (c .off) (d .off) || (eqb (c .off) (d .off) && ltb (c .on) (d .on))
+forget s c = condition (c .on without s) (c .off without s)
