@@ -1,4 +1,4 @@
--- What a condition on signals says, alone, joined to another, and with a signal forgotten.
+-- What a condition says, alone, joined to another, and with a slot forgotten.
 use mathlib.Core.Path.{_≡_, refl, sym, ap, _∙_, subst}
 use mathlib.Core.Logic.{_≢_, _⊎_, inl, inr}
 use mathlib.Core.Bool.{Bool, true, false, not, _&&_, _||_}
@@ -77,17 +77,17 @@ clash-fails c F e =
     not-true (holds c F) (λ h. let k = holds-yes c F h in
     clash e (ap not (apart-test (c .on) (c .off) (λ x m. not-true (has (c .off) x) (λ n. clash (k .0 x m) (k .1 x n))))))
 
-pub holds-on : (S F : ℕ) → holds (condition (only S) 0) F ≡ has F S
-holds-on S F =
-    same-bool (holds (condition (only S) 0) F) (has F S)
-    (λ h. holds-yes (condition (only S) 0) F h .0 S (has-only S))
-    (λ h. holds-is (condition (only S) 0) F (λ x m. subst (λ (z : ℕ). has F z ≡ true) (has-only-equal S x m) h, λ x m. clash m (has-empty x)))
+pub holds-on : (s F : ℕ) → holds (condition (only s) 0) F ≡ has F s
+holds-on s F =
+    same-bool (holds (condition (only s) 0) F) (has F s)
+    (λ h. holds-yes (condition (only s) 0) F h .0 s (has-only s))
+    (λ h. holds-is (condition (only s) 0) F (λ x m. subst (λ (z : ℕ). has F z ≡ true) (has-only-equal s x m) h, λ x m. clash m (has-empty x)))
 
-pub holds-off : (S F : ℕ) → holds (condition 0 (only S)) F ≡ not (has F S)
-holds-off S F =
-    same-bool (holds (condition 0 (only S)) F) (not (has F S))
-    (λ h. ap not (holds-yes (condition 0 (only S)) F h .1 S (has-only S)))
-    (λ h. holds-is (condition 0 (only S)) F (λ x m. clash m (has-empty x), λ x m. subst (λ (z : ℕ). has F z ≡ false) (has-only-equal S x m) (un (has F S) h)))
+pub holds-off : (s F : ℕ) → holds (condition 0 (only s)) F ≡ not (has F s)
+holds-off s F =
+    same-bool (holds (condition 0 (only s)) F) (not (has F s))
+    (λ h. ap not (holds-yes (condition 0 (only s)) F h .1 s (has-only s)))
+    (λ h. holds-is (condition 0 (only s)) F (λ x m. clash m (has-empty x), λ x m. subst (λ (z : ℕ). has F z ≡ false) (has-only-equal s x m) (un (has F s) h)))
   where
     un : (b : Bool) → not b ≡ true → b ≡ false
     un true e = clash e refl
@@ -101,25 +101,25 @@ other a S x h = go (ℕ-discrete S x)
     go (yes e) = clash (ap (has (a without S)) e ∙ h) (has-without-same a S)
     go (no n) = (n, sym (has-without-other a S x n) ∙ h)
 
--- where G has S or has it not, and is F otherwise, a condition says of G what it says of S and, S forgotten, of F
-holds-but : (S F G : ℕ) (c : Condition) (ok : Bool) → SameBut S F G
-    → (ok ≡ true → (has (c .on) S ≡ true → has G S ≡ true) × (has (c .off) S ≡ true → has G S ≡ false))
-    → ((has (c .on) S ≡ true → has G S ≡ true) → (has (c .off) S ≡ true → has G S ≡ false) → ok ≡ true)
-    → holds c G ≡ (ok && holds (forget S c) F)
+-- where G has s or has it not, and is F otherwise, a condition says of G what it says of s and, s forgotten, of F
+holds-but : (s F G : ℕ) (c : Condition) (ok : Bool) → SameBut s F G
+    → (ok ≡ true → (has (c .on) s ≡ true → has G s ≡ true) × (has (c .off) s ≡ true → has G s ≡ false))
+    → ((has (c .on) s ≡ true → has G s ≡ true) → (has (c .off) s ≡ true → has G s ≡ false) → ok ≡ true)
+    → holds c G ≡ (ok && holds (forget s c) F)
 unfolding forget
-holds-but S F G c ok s f g =
-    same-bool (holds c G) (ok && holds (forget S c) F)
+holds-but s F G c ok o f g =
+    same-bool (holds c G) (ok && holds (forget s c) F)
     (λ h. let k = holds-yes c G h in
-    and-both ok (holds (forget S c) F) (g (k .0 S) (k .1 S))
-    (holds-is (forget S c) F
-    (λ x m. let (n, l) = other (c .on) S x m in s x n ∙ k .0 x l, λ x m. let (n, l) = other (c .off) S x m in s x n ∙ k .1 x l)))
-    (λ h. let (u, v) = and-cases ok (holds (forget S c) F) h in let k = holds-yes (forget S c) F v in
+    and-both ok (holds (forget s c) F) (g (k .0 s) (k .1 s))
+    (holds-is (forget s c) F
+    (λ x m. let (n, l) = other (c .on) s x m in o x n ∙ k .0 x l, λ x m. let (n, l) = other (c .off) s x m in o x n ∙ k .1 x l)))
+    (λ h. let (u, v) = and-cases ok (holds (forget s c) F) h in let k = holds-yes (forget s c) F v in
     holds-is c G
-    (λ x m. at (c .on) x true m (ℕ-discrete S x) (f u .0) (k .0 x), λ x m. at (c .off) x false m (ℕ-discrete S x) (f u .1) (k .1 x)))
+    (λ x m. at (c .on) x true m (ℕ-discrete s x) (f u .0) (k .0 x), λ x m. at (c .off) x false m (ℕ-discrete s x) (f u .1) (k .1 x)))
   where
-    at : (a x : ℕ) (b : Bool) → has a x ≡ true → Dec (S ≡ x) → (has a S ≡ true → has G S ≡ b) → (has (a without S) x ≡ true → has F x ≡ b) → has G x ≡ b
+    at : (a x : ℕ) (b : Bool) → has a x ≡ true → Dec (s ≡ x) → (has a s ≡ true → has G s ≡ b) → (has (a without s) x ≡ true → has F x ≡ b) → has G x ≡ b
     at a x b m (yes e) i j = subst (λ (z : ℕ). has a z ≡ true → has G z ≡ b) e i m
-    at a x b m (no n) i j = sym (s x n) ∙ j (has-without-other a S x n ∙ m)
+    at a x b m (no n) i j = sym (o x n) ∙ j (has-without-other a s x n ∙ m)
 
 pub added : (S F : ℕ) → SameBut S F (F union only S)
 added S F x n = sym (has-union F (only S) x ∙ ap (λ z. has F x || z) (has-only-other S x n) ∙ or-false (has F x))
@@ -127,17 +127,17 @@ added S F x n = sym (has-union F (only S) x ∙ ap (λ z. has F x || z) (has-onl
 pub removed : (S F : ℕ) → SameBut S F (F without S)
 removed S F x n = sym (has-without-other F S x n)
 
-pub holds-added : (S F : ℕ) (c : Condition) → holds c (F union only S) ≡ (not (has (c .off) S) && holds (forget S c) F)
-holds-added S F c =
-    holds-but S F (F union only S) c (not (has (c .off) S)) (added S F)
+pub holds-added : (s F : ℕ) (c : Condition) → holds c (F union only s) ≡ (not (has (c .off) s) && holds (forget s c) F)
+holds-added s F c =
+    holds-but s F (F union only s) c (not (has (c .off) s)) (added s F)
     (λ e. (λ h. there, λ h. clash e (ap not h)))
-    (λ u v. ap not (not-true (has (c .off) S) (λ h. clash there (v h))))
+    (λ u v. ap not (not-true (has (c .off) s) (λ h. clash there (v h))))
   where
-    there : has (F union only S) S ≡ true
-    there = in-right F (only S) S (has-only S)
+    there : has (F union only s) s ≡ true
+    there = in-right F (only s) s (has-only s)
 
-pub holds-removed : (S F : ℕ) (c : Condition) → holds c (F without S) ≡ (not (has (c .on) S) && holds (forget S c) F)
-holds-removed S F c =
-    holds-but S F (F without S) c (not (has (c .on) S)) (removed S F)
-    (λ e. (λ h. clash e (ap not h), λ h. has-without-same F S))
-    (λ u v. ap not (not-true (has (c .on) S) (λ h. clash (u h) (has-without-same F S))))
+pub holds-removed : (s F : ℕ) (c : Condition) → holds c (F without s) ≡ (not (has (c .on) s) && holds (forget s c) F)
+holds-removed s F c =
+    holds-but s F (F without s) c (not (has (c .on) s)) (removed s F)
+    (λ e. (λ h. clash e (ap not h), λ h. has-without-same F s))
+    (λ u v. ap not (not-true (has (c .on) s) (λ h. clash (u h) (has-without-same F s))))

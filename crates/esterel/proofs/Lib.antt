@@ -16,6 +16,7 @@ pub mod Listing
 pub mod Needed
 pub mod Indistinguishable
 pub mod Conditions
+pub mod Slots
 pub mod Proper
 pub mod RowOrder
 pub mod Rows

@@ -1,105 +1,81 @@
--- The order of rows, by reaction and then by condition: it is total, and sorting by it keeps the rows and gives a rising list.
+-- The order of rows is total, and sorting by it keeps the rows and gives a rising list.
 use mathlib.Core.Path.{_≡_, refl, sym, ap, _∙_, subst}
 use mathlib.Core.Logic.{_⊎_, inl, inr}
-use mathlib.Core.Bool.{Bool, true, false, cond, not, _&&_, _||_}
+use mathlib.Core.Bool.{Bool, true, false, cond, _&&_, _||_}
 use mathlib.Core.List.{List, [], _∷_}
 use Prim.Native.Nat.{ℕ, _≤_, _<_}
 use native.Mathlib.Omega.{arith}
 use lib.Dec.{eqb, ltb}
-use Rattle.sets.proofs.Booleans.{or-left, or-right, or-cases, and-both, and-cases, not-true, clash, by-cond, eqb-equal, eqb-same}
-use Rattle.esterel.specs.Reactions.{Reaction}
-use Rattle.esterel.specs.Listing.{Listed, Before, before}
-use Rattle.esterel.specs.inner.Conditions.{Condition, beforeCondition}
+use Rattle.sets.proofs.Booleans.{or-cases, or-neither, and-both, and-cases, not-true, clash, by-cond, eqb-equal, eqb-same}
+use Rattle.esterel.specs.Listing.{Listed}
 use Rattle.esterel.specs.inner.Rows.{Row}
-use Rattle.esterel.specs.inner.CappedRows.{beforeRow, insertRow, sortedRows}
-use Rattle.esterel.proofs.Order.{ltb-yes, ltb-not, before-yes, before-is, before-trans, neither}
+use Rattle.esterel.specs.inner.CappedRows.{lessOr, beforeRow, insertRow, sortedRows}
+use Rattle.esterel.proofs.Order.{ltb-yes, ltb-not}
 
 -- ---- the order
 
-abbrev pub BeforeCondition : Condition → Condition → Type 0
-BeforeCondition c d = (c .off < d .off) ⊎ ((c .off ≡ d .off) × (c .on < d .on))
+abbrev pub LessOr : ℕ → ℕ → Type 0 → Type 0
+LessOr a b R = (a < b) ⊎ ((a ≡ b) × R)
 
 abbrev pub BeforeRow : Row → Row → Type 0
-BeforeRow w v = Before (w .reacts) (v .reacts) ⊎ ((w .reacts ≡ v .reacts) × BeforeCondition (w .when) (v .when))
+BeforeRow w v =
+    LessOr (w .reacts .emitted) (v .reacts .emitted) (LessOr (w .reacts .code) (v .reacts .code)
+    (LessOr (w .when .on) (v .when .on) (LessOr (w .when .off) (v .when .off) (w .reacts .reached < v .reacts .reached))))
 
 -- each stands before all that follow it, so none stands there twice
 abbrev pub RisingRows : List Row → Type 0
 RisingRows [] = Unit {0}
 RisingRows (w ∷ ws) = ((v : Row) → Listed v ws → BeforeRow w v) × RisingRows ws
 
-not-false : (b : Bool) → not b ≡ true → b ≡ false
-not-false b e = not-true b (λ h. clash e (ap not h))
-
-same-if : (r t : Reaction) → before r t ≡ false → before t r ≡ false → r ≡ t
-same-if r t a b = neither r t (λ h. clash (before-is r t h) a) (λ h. clash (before-is t r h) b)
-
-condition-yes : (c d : Condition) → beforeCondition c d ≡ true → BeforeCondition c d
-unfolding beforeCondition
-condition-yes c d h = go (or-cases (ltb (c .off) (d .off)) (eqb (c .off) (d .off) && ltb (c .on) (d .on)) h)
+less-yes : (a b : ℕ) {c : Bool} {R : Type 0} → (c ≡ true → R) → lessOr a b c ≡ true → LessOr a b R
+unfolding lessOr
+less-yes a b {c} {R} f h = go (or-cases (ltb a b) (eqb a b && c) h)
   where
-    go : (ltb (c .off) (d .off) ≡ true) ⊎ ((eqb (c .off) (d .off) && ltb (c .on) (d .on)) ≡ true) → BeforeCondition c d
-    go (inl e) = inl (ltb-yes (c .off) (d .off) e)
-    go (inr e) =
-        let (a, b) = and-cases (eqb (c .off) (d .off)) (ltb (c .on) (d .on)) e in
-        inr (eqb-equal (c .off) (d .off) a, ltb-yes (c .on) (d .on) b)
+    go : (ltb a b ≡ true) ⊎ ((eqb a b && c) ≡ true) → LessOr a b R
+    go (inl e) = inl (ltb-yes a b e)
+    go (inr e) = let (i, j) = and-cases (eqb a b) c e in inr (eqb-equal a b i, f j)
 
--- where neither stands before the other, they are the same
-condition-same : (c d : Condition) → beforeCondition c d ≡ false → beforeCondition d c ≡ false → c ≡ d
-unfolding beforeCondition
-condition-same c d a b = λ i. record { on = ons i; off = offs i }
+-- where neither stands before the other, they are the same, and it is left to what follows
+less-same : (a b : ℕ) {c d : Bool} → lessOr a b c ≡ false → lessOr b a d ≡ false → (a ≡ b) × (c ≡ false) × (d ≡ false)
+unfolding lessOr
+less-same a b {c} {d} h k = (same, rest a b c same h, rest b a d (sym same) k)
   where
     no : (m n : ℕ) (e : Bool) → (ltb m n || e) ≡ false → n ≤ m
-    no m n e h = ltb-not m n (not-true (ltb m n) (λ k. clash (or-left e k) h))
+    no m n e l = ltb-not m n (or-neither (ltb m n) e l .0)
 
-    offs : c .off ≡ d .off
-    offs =
-        let i = no (c .off) (d .off) (eqb (c .off) (d .off) && ltb (c .on) (d .on)) a in
-        let j = no (d .off) (c .off) (eqb (d .off) (c .off) && ltb (d .on) (c .on)) b in
-        omega arith
+    same : a ≡ b
+    same = let i = no a b (eqb a b && c) h in let j = no b a (eqb b a && d) k in omega arith
 
-    later : (u v : Condition) → u .off ≡ v .off → (ltb (u .off) (v .off) || (eqb (u .off) (v .off) && ltb (u .on) (v .on))) ≡ false → v .on ≤ u .on
-    later u v e h =
-        let k : eqb (u .off) (v .off) ≡ true = ap (λ (z : ℕ). eqb z (v .off)) e ∙ eqb-same (v .off) in
-        ltb-not (u .on) (v .on) (not-true (ltb (u .on) (v .on)) (λ l. clash (or-right (ltb (u .off) (v .off)) (and-both (eqb (u .off) (v .off)) (ltb (u .on) (v .on)) k l)) h))
+    rest : (m n : ℕ) (e : Bool) → m ≡ n → (ltb m n || (eqb m n && e)) ≡ false → e ≡ false
+    rest m n e p l =
+        not-true e (λ t. clash (and-both (eqb m n) e (ap (λ (z : ℕ). eqb z n) p ∙ eqb-same n) t) (or-neither (ltb m n) (eqb m n && e) l .1))
 
-    ons : c .on ≡ d .on
-    ons = let i = later c d offs a in let j = later d c (sym offs) b in omega arith
+less-trans : {a b c : ℕ} {P Q R : Type 0} → (P → Q → R) → LessOr a b P → LessOr b c Q → LessOr a c R
+less-trans f (inl h) (inl k) = inl (omega arith)
+less-trans f (inl h) (inr k) = inl (let i = k .0 in omega arith)
+less-trans f (inr h) (inl k) = inl (let i = h .0 in omega arith)
+less-trans f (inr h) (inr k) = inr (h .0 ∙ k .0, f (h .1) (k .1))
 
 pub row-yes : (w v : Row) → beforeRow w v ≡ true → BeforeRow w v
 unfolding beforeRow
-row-yes w v h = first (before (w .reacts) (v .reacts)) refl h
-  where
-    first : (b : Bool) → before (w .reacts) (v .reacts) ≡ b → (b || (not (before (v .reacts) (w .reacts)) && beforeCondition (w .when) (v .when))) ≡ true → BeforeRow w v
-    first true e k = inl (before-yes (w .reacts) (v .reacts) e)
-    first false e k =
-        let (a, b) = and-cases (not (before (v .reacts) (w .reacts))) (beforeCondition (w .when) (v .when)) k in
-        inr (same-if (w .reacts) (v .reacts) e (not-false (before (v .reacts) (w .reacts)) a), condition-yes (w .when) (v .when) b)
+row-yes w v h =
+    less-yes (w .reacts .emitted) (v .reacts .emitted) (less-yes (w .reacts .code) (v .reacts .code)
+    (less-yes (w .when .on) (v .when .on) (less-yes (w .when .off) (v .when .off) (ltb-yes (w .reacts .reached) (v .reacts .reached))))) h
 
 row-same : (w v : Row) → beforeRow w v ≡ false → beforeRow v w ≡ false → w ≡ v
 unfolding beforeRow
 row-same w v a b =
-    let i : before (w .reacts) (v .reacts) ≡ false = not-true (before (w .reacts) (v .reacts)) (λ k. clash (or-left _ k) a) in
-    let j : before (v .reacts) (w .reacts) ≡ false = not-true (before (v .reacts) (w .reacts)) (λ k. clash (or-left _ k) b) in
-    let t : w .reacts ≡ v .reacts = same-if (w .reacts) (v .reacts) i j in
-    let c : w .when ≡ v .when = condition-same (w .when) (v .when)
-    (last (before (w .reacts) (v .reacts)) (before (v .reacts) (w .reacts)) (beforeCondition (w .when) (v .when)) j a)
-    (last (before (v .reacts) (w .reacts)) (before (w .reacts) (v .reacts)) (beforeCondition (v .when) (w .when)) i b) in
-    λ i. record { when = c i; reacts = t i }
-  where
-    last : (b r c : Bool) → r ≡ false → (b || (not r && c)) ≡ false → c ≡ false
-    last b r c e h = not-true c (λ k. clash (or-right b (and-both (not r) c (ap not e) k)) h)
-
-condition-trans : (b c d : Condition) → BeforeCondition b c → BeforeCondition c d → BeforeCondition b d
-condition-trans b c d (inl h) (inl k) = inl (omega arith)
-condition-trans b c d (inl h) (inr k) = inl (let i = k .0 in omega arith)
-condition-trans b c d (inr h) (inl k) = inl (let i = h .0 in omega arith)
-condition-trans b c d (inr h) (inr k) = inr (h .0 ∙ k .0, (let i = h .1 in let j = k .1 in omega arith))
+    let (o, a1, b1) = less-same (w .reacts .emitted) (v .reacts .emitted) a b in
+    let (k, a2, b2) = less-same (w .reacts .code) (v .reacts .code) a1 b1 in
+    let (n, a3, b3) = less-same (w .when .on) (v .when .on) a2 b2 in
+    let (f, a4, b4) = less-same (w .when .off) (v .when .off) a3 b3 in
+    let i = ltb-not (w .reacts .reached) (v .reacts .reached) a4 in
+    let j = ltb-not (v .reacts .reached) (w .reacts .reached) b4 in
+    let l : w .reacts .reached ≡ v .reacts .reached = omega arith in
+    λ z. record { when = record { on = n z; off = f z }; reacts = record { emitted = o z; code = k z; reached = l z } }
 
 row-trans : (u v w : Row) → BeforeRow u v → BeforeRow v w → BeforeRow u w
-row-trans u v w (inl h) (inl k) = inl (before-trans (u .reacts) (v .reacts) (w .reacts) h k)
-row-trans u v w (inl h) (inr k) = inl (subst (Before (u .reacts)) (k .0) h)
-row-trans u v w (inr h) (inl k) = inl (subst (λ r. Before r (w .reacts)) (sym (h .0)) k)
-row-trans u v w (inr h) (inr k) = inr (h .0 ∙ k .0, condition-trans (u .when) (v .when) (w .when) (h .1) (k .1))
+row-trans u v w = less-trans (less-trans (less-trans (less-trans (λ h k. omega arith))))
 
 -- ---- sorting
 

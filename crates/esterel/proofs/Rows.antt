@@ -1,5 +1,5 @@
--- What a list of rows lists under a set F: the reactions of the rows whose conditions hold under F. Each way to make rows goes
--- over to the way of specs/Listing to make lists, for any rows.
+-- What a list of rows lists under a set F of slots: the reactions of the rows whose conditions hold under F. Each way to make rows
+-- goes over to the way of specs/Listing to make lists, for any rows.
 use mathlib.Core.Path.{_≡_, refl, sym, ap, ap₂, _∙_, subst}
 use mathlib.Core.Logic.{_⊎_, inl, inr}
 use mathlib.Core.Bool.{Bool, true, false, cond, not, _&&_}
@@ -11,12 +11,13 @@ use Rattle.sets.proofs.Booleans.{clash, by-cond}
 use Rattle.esterel.specs.Codes.{through}
 use Rattle.esterel.specs.Reactions.{Reaction}
 use Rattle.esterel.specs.Listing.{Listed, reaction, sorted, one, onlyIf, each, hide, follow, pair, together, going, caught}
-use Rattle.esterel.specs.inner.Conditions.{Condition, condition, always, holds, both, clashes, forget}
-use Rattle.esterel.specs.inner.Rows.{Row, rowWhen, sure, onlyRows, under, eachRow, given, then, tested, asked, emitRows, hidden, localRow, localRows, followRows, togetherRows, goingRows, caughtRows, Gives}
-use Rattle.esterel.specs.inner.CappedRows.{sortedRows, hideRows}
+use Rattle.esterel.specs.inner.Conditions.{slotOf, seen, Condition, condition, always, holds, both, clashes, forget}
+use Rattle.esterel.specs.inner.Rows.{Row, rowWhen, sure, onlyRows, under, eachRow, given, then, tested, asked, emitRows, hidden, localRow, localRows, hideRows, followRows, togetherRows, goingRows, caughtRows, Gives}
+use Rattle.esterel.specs.inner.CappedRows.{sortedRows}
 use Rattle.esterel.proofs.Order.{append-left, append-right, append-cases, each-in, each-out, sorted-in, sorted-out}
 use Rattle.esterel.proofs.Listing.{split}
 use Rattle.esterel.proofs.Conditions.{holds-always, holds-both, clash-fails, holds-on, holds-off, holds-added, holds-removed}
+use Rattle.esterel.proofs.Slots.{has-seen, seen-added, seen-removed}
 use Rattle.esterel.proofs.Proper.{All, none, more, Proper, emitted-needed}
 use Rattle.esterel.proofs.RowOrder.{sorted-rows-in, sorted-rows-out}
 
@@ -83,12 +84,12 @@ under-then : (F : ℕ) (ws : List Row) (f : Reaction → List Row) → under F (
 unfolding then
 under-then F ws f = under-each F F ws (λ w. given (w .when) (f (w .reacts))) (λ r. under F (f r)) (λ w. under-given F (w .when) (f (w .reacts)))
 
-under-tested : (S F : ℕ) (ws vs : List Row) → under F (tested S ws vs) ≡ cond (has F S) (under F ws) (under F vs)
+under-tested : (s F : ℕ) (ws vs : List Row) → under F (tested s ws vs) ≡ cond (has F s) (under F ws) (under F vs)
 unfolding tested
-under-tested S F ws vs =
-    under-append F (given (condition (only S) 0) ws) (given (condition 0 (only S)) vs)
-    ∙ ap₂ _++_ (under-given F (condition (only S) 0) ws ∙ ap (λ b. onlyIf b (under F ws)) (holds-on S F)) (under-given F (condition 0 (only S)) vs ∙ ap (λ b. onlyIf b (under F vs)) (holds-off S F))
-    ∙ chosen (has F S) (under F ws) (under F vs)
+under-tested s F ws vs =
+    under-append F (given (condition (only s) 0) ws) (given (condition 0 (only s)) vs)
+    ∙ ap₂ _++_ (under-given F (condition (only s) 0) ws ∙ ap (λ b. onlyIf b (under F ws)) (holds-on s F)) (under-given F (condition 0 (only s)) vs ∙ ap (λ b. onlyIf b (under F vs)) (holds-off s F))
+    ∙ chosen (has F s) (under F ws) (under F vs)
   where
     chosen : (b : Bool) (ts us : List Reaction) → onlyIf b ts ++ onlyIf (not b) us ≡ cond b ts us
     chosen true ts us = append-nil ts
@@ -102,29 +103,29 @@ under-hide S F ws =
     (λ w. under-kept F (has (w .reacts .emitted) S) (w .when) (hidden S (w .reacts)) ∙ nested (has (w .reacts .emitted) S) (holds (w .when) F) (one (hidden S (w .reacts))))
 
 -- a row of a body: where it emits S it is one of rule signal+, else one of rule signal-
-under-local : (S U F : ℕ) (w : Row) → has U S ≡ true → Proper U 0 w
-    → under F (localRow S w) ≡ onlyIf (holds (w .when) (F union only S)) (onlyIf (has (w .reacts .emitted) S) (one (hidden S (w .reacts)))) ++ onlyIf (holds (w .when) (F without S)) (one (w .reacts))
+under-local : (S s F : ℕ) (w : Row) → (has (w .reacts .emitted) S ≡ true → has (w .when .on) s ≡ true) → (has (w .when .on) s ≡ true → has (w .when .off) s ≡ false)
+    → under F (localRow S s w) ≡ onlyIf (holds (w .when) (F union only s)) (onlyIf (has (w .reacts .emitted) S) (one (hidden S (w .reacts)))) ++ onlyIf (holds (w .when) (F without s)) (one (w .reacts))
 unfolding localRow
-under-local S U F w u k =
-    go (has (w .reacts .emitted) S) (has (w .when .off) S) (has (w .when .on) S) (emitted-needed k S u) (k .apart S)
+under-local S s F w u k =
+    go (has (w .reacts .emitted) S) (has (w .when .off) s) (has (w .when .on) s) u k
     ∙ ap₂ (λ a b. onlyIf a (onlyIf (has (w .reacts .emitted) S) (one (hidden S (w .reacts)))) ++ onlyIf b (one (w .reacts)))
-    (sym (holds-added S F (w .when))) (sym (holds-removed S F (w .when)))
+    (sym (holds-added s F (w .when))) (sym (holds-removed s F (w .when)))
   where
     f : Bool
-    f = holds (forget S (w .when)) F
+    f = holds (forget s (w .when)) F
 
     nothing-of : (b : Bool) → onlyIf b [] ≡ []
     nothing-of true = refl
     nothing-of false = refl
 
     go : (o n y : Bool) → (o ≡ true → y ≡ true) → (y ≡ true → n ≡ false)
-        → under F (cond o (rowWhen (forget S (w .when)) (hidden S (w .reacts)) ∷ []) (onlyRows (not y) (rowWhen (forget S (w .when)) (w .reacts) ∷ [])))
+        → under F (cond o (rowWhen (forget s (w .when)) (hidden S (w .reacts)) ∷ []) (onlyRows (not y) (rowWhen (forget s (w .when)) (w .reacts) ∷ [])))
         ≡ onlyIf (not n && f) (onlyIf o (one (hidden S (w .reacts)))) ++ onlyIf (not y && f) (one (w .reacts))
     go true n false i j = clash (i refl) refl
     go true true true i j = clash refl (j refl)
-    go true false true i j = under-row F (forget S (w .when)) (hidden S (w .reacts)) ∙ sym (append-nil (onlyIf f (one (hidden S (w .reacts)))))
+    go true false true i j = under-row F (forget s (w .when)) (hidden S (w .reacts)) ∙ sym (append-nil (onlyIf f (one (hidden S (w .reacts)))))
     go false n y i j =
-        under-kept F (not y) (forget S (w .when)) (w .reacts) ∙ ap (λ ts. ts ++ onlyIf (not y && f) (one (w .reacts))) (sym (nothing-of (not n && f)))
+        under-kept F (not y) (forget s (w .when)) (w .reacts) ∙ ap (λ ts. ts ++ onlyIf (not y && f) (one (w .reacts))) (sym (nothing-of (not n && f)))
 
 -- ---- rows that list, under a set, what a list holds
 
@@ -208,26 +209,33 @@ lists-then {F} {ws} {ts} f g l m =
     lists (each (under F ws) (λ r. under F (f r))) (under-then F ws f)
     (alike-each (under F ws) ts (λ r. under F (f r)) g (l .out, l .back) (λ r. (m r .out, m r .back)))
 
-pub lists-tested : {F : ℕ} {ws vs : List Row} {ts us : List Reaction} (S : ℕ) → Lists F ws ts → Lists F vs us → Lists F (tested S ws vs) (cond (has F S) ts us)
-lists-tested {F} {ws} {vs} {ts} {us} S l m = lists (cond (has F S) (under F ws) (under F vs)) (under-tested S F ws vs) (go (has F S))
+lists-slot : {F : ℕ} {ws vs : List Row} {ts us : List Reaction} (s : ℕ) → Lists F ws ts → Lists F vs us → Lists F (tested s ws vs) (cond (has F s) ts us)
+lists-slot {F} {ws} {vs} {ts} {us} s l m = lists (cond (has F s) (under F ws) (under F vs)) (under-tested s F ws vs) (go (has F s))
   where
     go : (b : Bool) → Alike (cond b (under F ws) (under F vs)) (cond b ts us)
     go true = (l .out, l .back)
     go false = (m .out, m .back)
 
-pub lists-asked : {F : ℕ} {ws vs : List Row} {ts us : List Reaction} (S E U : ℕ) → (has U S ≡ false → has E S ≡ has F S)
-    → Lists F ws ts → Lists F vs us → Lists F (asked S E U ws vs) (cond (has F S) ts us)
-unfolding asked
-lists-asked {F} {ws} {vs} {ts} {us} S E U a l m =
-    by-cond (λ zs. Lists F zs (cond (has F S) ts us)) (has U S) (tested S ws vs) (cond (has E S) ws vs) (λ u. lists-tested S l m)
-    (λ u. subst (λ b. Lists F (cond (has E S) ws vs) (cond b ts us)) (a u) (lists-cond (has E S) l m))
+pub lists-tested : {ws vs : List Row} {ts us : List Reaction} (M S F : ℕ) → has M S ≡ true → Lists (seen M F) ws ts → Lists (seen M F) vs us
+    → Lists (seen M F) (tested (slotOf M S) ws vs) (cond (has F S) ts us)
+lists-tested {ws} {vs} {ts} {us} M S F i l m =
+    subst (λ b. Lists (seen M F) (tested (slotOf M S) ws vs) (cond b ts us)) (has-seen M F S i) (lists-slot (slotOf M S) l m)
 
-pub lists-emit : {F : ℕ} (S E U : ℕ) → (has U S ≡ false → has E S ≡ has F S) → Lists F (emitRows S E U) (onlyIf (has F S) (one (reaction (only S) 0 0)))
+pub lists-asked : {ws vs : List Row} {ts us : List Reaction} (M S E U F : ℕ) → (has U S ≡ true → has M S ≡ true) → (has U S ≡ false → has E S ≡ has F S)
+    → Lists (seen M F) ws ts → Lists (seen M F) vs us → Lists (seen M F) (asked M S E U ws vs) (cond (has F S) ts us)
+unfolding asked
+lists-asked {ws} {vs} {ts} {us} M S E U F v a l m =
+    by-cond (λ zs. Lists (seen M F) zs (cond (has F S) ts us)) (has U S) (tested (slotOf M S) ws vs) (cond (has E S) ws vs) (λ u. lists-tested M S F (v u) l m)
+    (λ u. subst (λ b. Lists (seen M F) (cond (has E S) ws vs) (cond b ts us)) (a u) (lists-cond (has E S) l m))
+
+pub lists-emit : (M S E U F : ℕ) → (has U S ≡ true → has M S ≡ true) → (has U S ≡ false → has E S ≡ has F S)
+    → Lists (seen M F) (emitRows M S E U) (onlyIf (has F S) (one (reaction (only S) 0 0)))
 unfolding emitRows
-lists-emit {F} S E U a =
-    by-cond (λ zs. Lists F zs (onlyIf (has F S) (one r))) (has U S) (rowWhen (condition (only S) 0) r ∷ []) (onlyRows (has E S) (sure r))
-    (λ u. lists (onlyIf (has F S) (one r)) (under-row F (condition (only S) 0) r ∙ ap (λ b. onlyIf b (one r)) (holds-on S F)) (λ t m. m, λ t m. m))
-    (λ u. subst (λ b. Lists F (onlyRows (has E S) (sure r)) (onlyIf b (one r))) (a u) (lists-cond (has E S) lists-sure lists-none))
+lists-emit M S E U F v a =
+    by-cond (λ zs. Lists (seen M F) zs (onlyIf (has F S) (one r))) (has U S) (rowWhen (condition (only (slotOf M S)) 0) r ∷ []) (onlyRows (has E S) (sure r))
+    (λ u. lists (onlyIf (has F S) (one r)) (under-row (seen M F) (condition (only (slotOf M S)) 0) r
+    ∙ ap (λ b. onlyIf b (one r)) (holds-on (slotOf M S) (seen M F) ∙ has-seen M F S (v u))) (λ t m. m, λ t m. m))
+    (λ u. subst (λ b. Lists (seen M F) (onlyRows (has E S) (sure r)) (onlyIf b (one r))) (a u) (lists-cond (has E S) lists-sure lists-none))
   where
     r : Reaction
     r = reaction (only S) 0 0
@@ -236,27 +244,33 @@ pub lists-hide : {F : ℕ} {ws : List Row} {ts : List Reaction} (S : ℕ) → Li
 lists-hide {F} {ws} {ts} S l = lists (hide S (under F ws)) (under-hide S F ws) (alike-hide S (under F ws) ts (l .out, l .back))
 
 -- the two lists of a body, from the one with S unknown
-alike-local : (S U F : ℕ) {ws : List Row} → has U S ≡ true → All (Proper U 0) ws
-    → Alike (under F (localRows S ws)) (hide S (under (F union only S) ws) ++ under (F without S) ws)
+alike-local : (M S U F : ℕ) {ws : List Row} → has U S ≡ true → All (Proper M U 0) ws
+    → Alike (under F (localRows S (slotOf M S) ws)) (hide S (under (F union only (slotOf M S)) ws) ++ under (F without slotOf M S) ws)
 unfolding localRows eachRow under hide each
-alike-local S U F u none = (λ r m. m, λ r m. m)
-alike-local S U F u (more {w = w} {ws = ws} k h) =
+alike-local M S U F u none = (λ r m. m, λ r m. m)
+alike-local M S U F u (more {w = w} {ws = ws} k h) =
     alike-path
-    (shuffled (onlyIf (holds (w .when) (F union only S)) (g (w .reacts))) (onlyIf (holds (w .when) (F without S)) (one (w .reacts)))
-    (each (under (F union only S) ws) g) (under (F without S) ws) (under F (eachRow ws (localRow S))) (alike-local S U F u h))
-    (under-append F (localRow S w) (eachRow ws (localRow S)) ∙ ap (λ ts. ts ++ under F (eachRow ws (localRow S))) (under-local S U F w u k))
-    (ap (λ ts. ts ++ (onlyIf (holds (w .when) (F without S)) (one (w .reacts)) ++ under (F without S) ws))
-    (each-only (holds (w .when) (F union only S)) (w .reacts) (under (F union only S) ws) g))
+    (shuffled (onlyIf (holds (w .when) (F union only s)) (g (w .reacts))) (onlyIf (holds (w .when) (F without s)) (one (w .reacts)))
+    (each (under (F union only s) ws) g) (under (F without s) ws) (under F (eachRow ws (localRow S s))) (alike-local M S U F u h))
+    (under-append F (localRow S s w) (eachRow ws (localRow S s))
+    ∙ ap (λ ts. ts ++ under F (eachRow ws (localRow S s))) (under-local S s F w (emitted-needed k S u) (k .apart s)))
+    (ap (λ ts. ts ++ (onlyIf (holds (w .when) (F without s)) (one (w .reacts)) ++ under (F without s) ws))
+    (each-only (holds (w .when) (F union only s)) (w .reacts) (under (F union only s) ws) g))
   where
+    s : ℕ
+    s = slotOf M S
+
     g : Reaction → List Reaction
     g r = onlyIf (has (r .emitted) S) (one (hidden S r))
 
-pub lists-local : {F : ℕ} {ws : List Row} {ts us : List Reaction} (S U : ℕ) → has U S ≡ true → All (Proper U 0) ws
-    → Lists (F union only S) ws ts → Lists (F without S) ws us → Lists F (localRows S ws) (hide S ts ++ us)
-lists-local {F} {ws} {ts} {us} S U u k l m =
-    let a = alike-local S U F u k in
-    let b = alike-append (hide S (under (F union only S) ws)) (hide S ts) (under (F without S) ws) us
-    (alike-hide S (under (F union only S) ws) ts (l .out, l .back)) (m .out, m .back) in
+pub lists-local : {ws : List Row} {ts us : List Reaction} (M S U F : ℕ) → has M S ≡ true → has U S ≡ true → All (Proper M U 0) ws
+    → Lists (seen M (F union only S)) ws ts → Lists (seen M (F without S)) ws us → Lists (seen M F) (localRows S (slotOf M S) ws) (hide S ts ++ us)
+lists-local {ws} {ts} {us} M S U F i u k l m =
+    let l′ = subst (λ (G : ℕ). Lists G ws ts) (seen-added M F S i) l in
+    let m′ = subst (λ (G : ℕ). Lists G ws us) (seen-removed M F S i) m in
+    let a = alike-local M S U (seen M F) u k in
+    let b = alike-append (hide S (under (seen M F union only (slotOf M S)) ws)) (hide S ts) (under (seen M F without slotOf M S) ws) us
+    (alike-hide S (under (seen M F union only (slotOf M S)) ws) ts (l′ .out, l′ .back)) (m′ .out, m′ .back) in
     record { out = λ r n. b .0 r (a .0 r n); back = λ r n. a .1 r (b .1 r n) }
 
 pub lists-sorted : {F : ℕ} {ws : List Row} {ts : List Reaction} → Lists F ws ts → Lists F ws (sorted ts)

@@ -12,6 +12,7 @@ use Rattle.esterel.specs.Statement.{Statement, nothing, pause, gotopause
 use Rattle.esterel.specs.Reactions.{State, Reaction, Derives, Reacts}
 use Rattle.esterel.specs.Reactions as rule
 use Rattle.esterel.specs.Listing.{Listed}
+use Rattle.esterel.specs.inner.Conditions.{seen}
 use Rattle.esterel.specs.inner.Rows.{Row, rowsOf, Agree, Gives, mayEmit}
 use Rattle.esterel.proofs.Emitting.{emitted-assumed}
 use Rattle.esterel.proofs.Listing.{list-is-listing}
@@ -78,21 +79,21 @@ agree-emitted U E I O a f x h =
     (λ e. a x h ∙ either I O x e (λ k. k) (λ k. either U I x (f x k) (λ u. clash u h) (λ i. i)))
 
 -- the reactions of p to I and what they emit, from one list of rows
-of-free : {p : Statement} {x : State} {E U : ℕ} {ws : List Row} → AreRows p x E U ws → (I : ℕ) → Agree U E I → (r : Reaction) → Within (r .emitted) (U union I)
-    → ((w : Row) × Listed w ws × Gives (I union r .emitted) r w) ↔ Reacts p x (I union r .emitted) r
-of-free {p} {x} {E} {U} h I a r f =
+of-free : {M : ℕ} {p : Statement} {x : State} {E U : ℕ} {ws : List Row} → AreRows M p x E U ws → (I : ℕ) → Agree U E I → (r : Reaction) → Within (r .emitted) (U union I)
+    → ((w : Row) × Listed w ws × Gives (seen M (I union r .emitted)) r w) ↔ Reacts p x (I union r .emitted) r
+of-free {M} {p} {x} {E} {U} h I a r f =
     let m = of-members h (I union r .emitted) (agree-emitted U E I (r .emitted) a f) r in
     let n = list-is-listing p x (I union r .emitted) .members r in
     (λ k. n .0 (m .0 k), λ k. m .1 (n .1 k))
 
 -- where every signal that p may emit is unknown or in I, that is all of them
-pub of-emitting : {p : Statement} {x : State} {E U : ℕ} {ws : List Row} → AreRows p x E U ws → (I : ℕ) → Agree U E I → Within (mayEmit p) (U union I)
-    → (r : Reaction) → ((w : Row) × Listed w ws × Gives (I union r .emitted) r w) ↔ Reacts p x (I union r .emitted) r
+pub of-emitting : {M : ℕ} {p : Statement} {x : State} {E U : ℕ} {ws : List Row} → AreRows M p x E U ws → (I : ℕ) → Agree U E I → Within (mayEmit p) (U union I)
+    → (r : Reaction) → ((w : Row) × Listed w ws × Gives (seen M (I union r .emitted)) r w) ↔ Reacts p x (I union r .emitted) r
 unfolding Reacts
-of-emitting {p} {x} {E} {U} {ws} h I a f r =
+of-emitting {M} {p} {x} {E} {U} {ws} h I a f r =
     (λ k. of-free h I a r (inside k) .0 k, λ k. of-free h I a r (λ y o. f y (emitted-may p k y o)) .1 k)
   where
-    inside : (w : Row) × Listed w ws × Gives (I union r .emitted) r w → Within (r .emitted) (U union I)
+    inside : (w : Row) × Listed w ws × Gives (seen M (I union r .emitted)) r w → Within (r .emitted) (U union I)
     inside (w, m, g) y o =
         either U E y (of-emitted h w m y (ap (λ (z : Reaction). has (z .emitted) y) (g .same) ∙ o))
         (λ u. in-left U I y u) (λ e. go (has U y) refl e)
@@ -101,6 +102,6 @@ of-emitting {p} {x} {E} {U} {ws} h I a f r =
         go true u e = in-left U I y u
         go false u e = in-right U I y (sym (a y u) ∙ e)
 
-pub rows-emitting : (p : Statement) (x : State) (E U I : ℕ) → Agree U E I → Within (mayEmit p) (U union I) → (r : Reaction)
-    → ((w : Row) × Listed w (rowsOf p x E U) × Gives (I union r .emitted) r w) ↔ Reacts p x (I union r .emitted) r
-rows-emitting p x E U I a f r = of-emitting (rows-are p x E U) I a f r
+pub rows-emitting : (M : ℕ) (p : Statement) (x : State) (E U I : ℕ) → Within U M → Agree U E I → Within (mayEmit p) (U union I) → (r : Reaction)
+    → ((w : Row) × Listed w (rowsOf M p x E U) × Gives (seen M (I union r .emitted)) r w) ↔ Reacts p x (I union r .emitted) r
+rows-emitting M p x E U I v a f r = of-emitting (rows-are M p x E U v) I a f r
