@@ -1,6 +1,6 @@
 -- Where every list of rows on the way has at most 64, refusal 15 is due under no set that agrees with E: a list that is needed under
 -- such a set has its reactions among those of a list of rows.
-use mathlib.Core.Path.{_≡_, refl, sym, ap, ap₂, _∙_}
+use mathlib.Core.Path.{_≡_, refl, ap, ap₂, _∙_}
 use mathlib.Core.Logic.{inl, inr}
 use mathlib.Core.Bool.{Bool, true, false, cond, not, _||_}
 use mathlib.Core.List.{List, [], _∷_, _++_}

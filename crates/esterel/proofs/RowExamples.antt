@@ -47,9 +47,9 @@ pub doubled : cappedRows (only 1) (signal 0 (present 0 (emit 0) nothing)) start 
 unfolding slotOf cappedRows names otherwise changeRows joinRows twiceRows collectRows capRows sortedRows insertRow lessOr beforeRow eachRow hideRows emitRows localRows always has only _union_ _minus_
 doubled = refl
 
-pub left : cappedRows (only 1) (signal 0 (present 0 (emit 0) nothing)) start 0 (only 1) ≡ none
+pub without-slot : cappedRows (only 1) (signal 0 (present 0 (emit 0) nothing)) start 0 (only 1) ≡ none
 unfolding cappedRows names otherwise has only
-left = refl
+without-slot = refl
 
 -- refusal 15 is not due, with 1 and without it
 pub settled-quiet : (F : ℕ) → Agree (only 1) 0 F → crowded (signal 0 (parallel (present 0 (emit 1) nothing) (emit 0))) start F ≡ false

@@ -138,7 +138,7 @@ pub seen-fits : (n M F : ℕ) → M < 2 ^ n → seen M F < 2 ^ slotOf M n
 seen-fits n M F h =
     fits (slotOf M n) (seen M F) (λ s k. let (S, m, f, e) = seen-slot M F s k in let i = slot-rise M S n m (below n M S h m) in omega arith)
 
--- ---- the set of the numbers below n for which f says so
+-- ---- the numbers below n for which f says so
 unfoldable pub those : (ℕ → Bool) → ℕ → ℕ
 those f zero = 0
 those f (suc n) = those f n union cond (f n) (only n) 0

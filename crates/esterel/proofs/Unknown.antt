@@ -11,7 +11,7 @@ use native.Mathlib.Omega.{arith}
 use lib.Dec.{eqb}
 use Rattle.sets.specs.Set.{has, only, _union_, _intersect_, _minus_, _without_, Within}
 use Rattle.sets.proofs.Booleans.{not-true, clash, by-cond}
-use Rattle.sets.proofs.Members.{has-empty, has-union, has-intersect, has-minus, has-only, has-only-equal, has-below, within-ext, fits, apart-sym}
+use Rattle.sets.proofs.Members.{has-union, has-intersect, has-minus, has-only, has-only-equal, has-below, within-ext, fits, apart-sym}
 use Rattle.esterel.specs.Statement.{Statement, nothing, pause, gotopause, emit, exit, signal, present, sequence, parallel, loop, try, pauses}
 use Rattle.esterel.specs.Reactions.{State, start, resumed, Reaction, Reacts}
 use Rattle.esterel.specs.Listing.{Listed, Before, Rising, sorted, one, onlyIf, hide, list}
