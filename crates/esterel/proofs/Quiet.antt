@@ -8,6 +8,7 @@ use Prim.Native.Nat.{ℕ, suc, _≤_}
 use native.Mathlib.Omega.{arith}
 use lib.Dec.{ltb}
 use lib.ListN.{length}
+use borrow.Author.Tests.{ltb-true}
 use Rattle.sets.specs.Set.{has, only, _union_, _without_, Within}
 use Rattle.sets.proofs.Booleans.{not-true, by-cond}
 use Rattle.esterel.specs.Statement.{Statement, nothing, pause, gotopause, emit, exit, signal, present, sequence, parallel, loop, try}
@@ -15,7 +16,7 @@ use Rattle.esterel.specs.Reactions.{State, start, resumed, Reaction}
 use Rattle.esterel.specs.Listing.{Listed, Rising, before, insert, sorted, one, onlyIf, list, Request, request, someEnds, needs, some, crowded}
 use Rattle.esterel.specs.inner.Conditions.{seen, holds}
 use Rattle.esterel.specs.inner.Rows.{Row, under, reactions, rowsOf, Agree, Few, Quiet}
-use Rattle.esterel.proofs.Order.{ltb-yes, sorted-in, sorted-rising, rising-shorter}
+use Rattle.esterel.proofs.Order.{sorted-in, sorted-rising, rising-shorter}
 use Rattle.esterel.proofs.Listing.{list-rising}
 use Rattle.esterel.proofs.Needed.{crowded-step}
 use Rattle.esterel.proofs.Conditions.{added, removed}
@@ -95,7 +96,7 @@ some-if r false h = refl
 
 -- its own list, and those of its children
 pub calm : (p : Statement) (x : State) (F : ℕ) → length (list p x F) ≤ 64 → some crowds (needs p x F) ≡ false → crowded p x F ≡ false
-calm p x F h e = crowded-step p x F ∙ ap₂ _||_ (not-true (ltb 64 (length (list p x F))) (λ k. let i = ltb-yes 64 (length (list p x F)) k in omega arith)) e
+calm p x F h e = crowded-step p x F ∙ ap₂ _||_ (not-true (ltb 64 (length (list p x F))) (λ k. let i = ltb-true 64 (length (list p x F)) k in omega arith)) e
 
 pub quiet : (M : ℕ) (p : Statement) (x : State) (E U F : ℕ) → Within U M → Agree U E F → Quiet M p x E U → crowded p x F ≡ false
 unfolding Quiet needs some

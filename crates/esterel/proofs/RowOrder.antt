@@ -6,11 +6,11 @@ use mathlib.Core.List.{List, [], _∷_}
 use Prim.Native.Nat.{ℕ, _≤_, _<_}
 use native.Mathlib.Omega.{arith}
 use lib.Dec.{eqb, ltb}
+use borrow.Author.Tests.{ltb-true, ltb-false}
 use Rattle.sets.proofs.Booleans.{or-cases, or-neither, and-both, and-cases, not-true, clash, by-cond, eqb-equal, eqb-same}
 use Rattle.esterel.specs.Listing.{Listed}
 use Rattle.esterel.specs.inner.Rows.{Row}
 use Rattle.esterel.specs.inner.CappedRows.{lessOr, beforeRow, insertRow, sortedRows}
-use Rattle.esterel.proofs.Order.{ltb-yes, ltb-not}
 
 -- ---- the order
 
@@ -32,7 +32,7 @@ unfolding lessOr
 less-yes a b {c} {R} f h = go (or-cases (ltb a b) (eqb a b && c) h)
   where
     go : (ltb a b ≡ true) ⊎ ((eqb a b && c) ≡ true) → LessOr a b R
-    go (inl e) = inl (ltb-yes a b e)
+    go (inl e) = inl (ltb-true a b e)
     go (inr e) = let (i, j) = and-cases (eqb a b) c e in inr (eqb-equal a b i, f j)
 
 -- where neither stands before the other, they are the same, and it is left to what follows
@@ -41,7 +41,7 @@ unfolding lessOr
 less-same a b {c} {d} h k = (same, rest a b c same h, rest b a d (sym same) k)
   where
     no : (m n : ℕ) (e : Bool) → (ltb m n || e) ≡ false → n ≤ m
-    no m n e l = ltb-not m n (or-neither (ltb m n) e l .0)
+    no m n e l = ltb-false m n (or-neither (ltb m n) e l .0)
 
     same : a ≡ b
     same = let i = no a b (eqb a b && c) h in let j = no b a (eqb b a && d) k in omega arith
@@ -60,7 +60,7 @@ pub row-yes : (w v : Row) → beforeRow w v ≡ true → BeforeRow w v
 unfolding beforeRow
 row-yes w v h =
     less-yes (w .reacts .emitted) (v .reacts .emitted) (less-yes (w .reacts .code) (v .reacts .code)
-    (less-yes (w .when .on) (v .when .on) (less-yes (w .when .off) (v .when .off) (ltb-yes (w .reacts .reached) (v .reacts .reached))))) h
+    (less-yes (w .when .on) (v .when .on) (less-yes (w .when .off) (v .when .off) (ltb-true (w .reacts .reached) (v .reacts .reached))))) h
 
 row-same : (w v : Row) → beforeRow w v ≡ false → beforeRow v w ≡ false → w ≡ v
 unfolding beforeRow
@@ -69,8 +69,8 @@ row-same w v a b =
     let (k, a2, b2) = less-same (w .reacts .code) (v .reacts .code) a1 b1 in
     let (n, a3, b3) = less-same (w .when .on) (v .when .on) a2 b2 in
     let (f, a4, b4) = less-same (w .when .off) (v .when .off) a3 b3 in
-    let i = ltb-not (w .reacts .reached) (v .reacts .reached) a4 in
-    let j = ltb-not (v .reacts .reached) (w .reacts .reached) b4 in
+    let i = ltb-false (w .reacts .reached) (v .reacts .reached) a4 in
+    let j = ltb-false (v .reacts .reached) (w .reacts .reached) b4 in
     let l : w .reacts .reached ≡ v .reacts .reached = omega arith in
     λ z. record { when = record { on = n z; off = f z }; reacts = record { emitted = o z; code = k z; reached = l z } }
 

@@ -9,6 +9,7 @@ use Prim.Native.Nat.{ℕ, suc, _≤_}
 use native.Mathlib.Omega.{arith}
 use lib.Dec.{ltb}
 use lib.ListN.{length}
+use borrow.Author.Tests.{ltb-true, ltb-false}
 use Rattle.sets.proofs.Booleans.{not-true, clash, by-cond}
 use Rattle.esterel.specs.Statement.{Statement}
 use Rattle.esterel.specs.Reactions.{State, Reaction}
@@ -16,7 +17,7 @@ use Rattle.esterel.specs.Listing.{Listed, list, Request, needs, someEnds
 use Rattle.esterel.specs.inner.Conditions.{seen}
 use Rattle.esterel.specs.inner.Rows.{Row, under, reactions, followRows, Agree}
 use Rattle.esterel.specs.inner.CappedRows.{sortedRows, CappedRows, capRows, collectRows, changeRows, joinRows, thenRows, otherwise}
-use Rattle.esterel.proofs.Order.{ltb-yes, ltb-not, rising-shorter}
+use Rattle.esterel.proofs.Order.{rising-shorter}
 use Rattle.esterel.proofs.Listing.{list-rising}
 use Rattle.esterel.proofs.Needed.{crowded-iff}
 use Rattle.esterel.proofs.Proper.{All, all-sorted, Proper}
@@ -75,7 +76,7 @@ unfolding collectRows capRows
 collected M p x E U {L} {N} ws k l n f =
     by-cond (Answers M (Due p x E U) E U L N) (ltb 64 (length (sortedRows ws))) none (some (sortedRows ws)) (λ e. wants (over e))
     (λ e. tells (record {
-      short = ltb-not 64 (length (sortedRows ws)) e;
+      short = ltb-false 64 (length (sortedRows ws)) e;
       rising = sorted-rows-rising ws;
       proper = all-sorted k;
       lists = λ F a. lists-sorted-rows (l F a);
@@ -84,7 +85,7 @@ collected M p x E U {L} {N} ws k l n f =
   where
     over : ltb 64 (length (sortedRows ws)) ≡ true → Due p x E U
     over e z =
-        let i = ltb-yes 64 (length (sortedRows ws)) e in
+        let i = ltb-true 64 (length (sortedRows ws)) e in
         let j = no-longer M p x E (sortedRows ws) (sorted-rows-rising ws) (subst (λ (u : ℕ). All (Proper M u 0) (sortedRows ws)) z (all-sorted k))
         (λ r m. f r (lists-sorted-rows (l E (λ S h. refl)) .out r m)) in
         crowded-iff p x E .1 (own (omega arith))
