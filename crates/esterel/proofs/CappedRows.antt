@@ -3,28 +3,29 @@
 use mathlib.Core.Path.{_≡_, refl, sym, ap, _∙_, subst}
 use mathlib.Core.Logic.{inl, inr}
 use mathlib.Core.Bool.{true, false, cond}
-use mathlib.Core.List.{List, _++_}
+use mathlib.Core.List.{List, [], _++_}
 use mathlib.Core.Option.{none, some}
 use Prim.Native.Nat.{ℕ, _≤_}
 use native.Mathlib.Omega.{arith}
 use lib.Dec.{eqb}
 use lib.ListN.{length}
-use Rattle.sets.specs.Set.{has, only, _union_, _without_, Within}
+use Rattle.sets.specs.Set.{has, only, _union_, _intersect_, _without_, Within}
 use Rattle.sets.proofs.Booleans.{clash, by-cond, eqb-equal}
-use Rattle.sets.proofs.Members.{has-empty, has-only, ext}
-use Rattle.esterel.specs.Statement.{Statement, nothing, pause, gotopause, emit, exit, signal, present, sequence, parallel, loop, try}
+use Rattle.sets.proofs.Members.{has-empty, has-only, ext, test-apart}
+use Rattle.esterel.specs.Statement.{Statement, nothing, pause, gotopause, emit, exit, signal, present, sequence, parallel, loop, try, pauses}
 use Rattle.esterel.specs.Reactions.{State, start, resumed}
 use Rattle.esterel.specs.Trimming.{names}
 use Rattle.esterel.specs.Listing.{reaction, sorted, hide, together, list, listing, request, needs, crowded}
 use Rattle.esterel.specs.inner.Conditions.{slotOf, seen}
 use Rattle.esterel.specs.inner.Rows.{Row, under, reactions, localRows, hideRows, rowsOf, Agree}
-use Rattle.esterel.specs.inner.CappedRows.{CappedRows, reactionsIn, changeRows, otherwise, twiceRows, cappedRows}
+use Rattle.esterel.specs.inner.CappedRows.{CappedRows, reactionsIn, changeRows, otherwise, givenUp, twiceRows, cappedRows}
 use Rattle.esterel.proofs.Order.{append-left, sorted-in, sorted-of-rising}
 use Rattle.esterel.proofs.Conditions.{in-right, added, removed}
 use Rattle.esterel.proofs.Proper.{all-append, within-none, proper-local, proper-hide}
 use Rattle.esterel.proofs.RowOrder.{RisingRows}
 use Rattle.esterel.proofs.Rows.{lists-append, lists-local, lists-hide, lists-sorted}
 use Rattle.esterel.proofs.Unknown.{AreRows, inside-too, agree-inside, lists-anywhere, rising-reactions, of-list, of-all}
+use Rattle.esterel.proofs.Absent.{apart-empty, apart-not-crowded}
 use Rattle.esterel.proofs.UnnamedLists.{unnamed-crowded, undeclared-list}
 use Rattle.esterel.proofs.Told.{Told, Answers, wants, tells, Due, Answered, Below, collected, weaker, same-rows, whole, changed, joined, instead, due}
 use Rattle.esterel.proofs.CappedArms.{two-quiet, leaf, one-row, emit-one, present-start, present-resumed, sequence-start, sequence-resumed, parallel-both, parallel-resumed, loop-start, loop-resumed, try-any, sorted-alike, same-alike}
@@ -75,20 +76,35 @@ twice M S p x E {v} a b =
         (λ F c. lists-hide S (lists-anywhere (seen M F) (k .proper) (k .lists (F union only S) (known E F (λ z. z union only S) c)))) (λ F c. k .quiet (F union only S) (known E F (λ z. z union only S) c))
         (λ r m. sorted-in r (hide S (list p x (E union only S)) ++ list p x (E without S)) (append-left r (hide S (list p x (E union only S))) (list p x (E without S)) m)))
 
+-- not at all, where signals are unknown
+given-up : (M S : ℕ) (p : Statement) (x : State) (E U : ℕ) → Within U M → Due (signal S p) x E U
+    → Answers M (Due (signal S p) x E U) E U (list (signal S p) x) (Below (signal S p) x) (givenUp x p)
+unfolding givenUp list needs rowsOf pauses
+given-up M S p start E U i d = wants d
+given-up M S p (resumed X) E U i d =
+    by-cond (Answers M (Due (signal S p) (resumed X) E U) E U (list (signal S p) (resumed X)) (Below (signal S p) (resumed X))) (eqb (X intersect pauses p) 0) (some []) none absent (λ e. wants d)
+  where
+    absent : eqb (X intersect pauses p) 0 ≡ true → Answers M (Due (signal S p) (resumed X) E U) E U (list (signal S p) (resumed X)) (Below (signal S p) (resumed X)) (some [])
+    absent e =
+        let h = test-apart X (pauses p) e in
+        same-rows (λ c. d) (λ F c. same-alike (apart-empty (signal S p) X F h))
+        (λ F c n. two-quiet (request p (resumed X) (F union only S)) (request p (resumed X) (F without S)) (apart-not-crowded p X (F union only S) h) (apart-not-crowded p X (F without S) h))
+        (leaf M nothing (resumed X) E U i (omega arith) (λ F. refl))
+
 signal-any : (M S : ℕ) (p : Statement) (x : State) (E U : ℕ) (v w u t : CappedRows) → Within U M → (has M S ≡ true → Answered M p x E (U union only S) v)
     → Answered M p x (E union only S) 0 w → Answered M p x (E without S) 0 u → Answered M p x E U t
     → Answered M (signal S p) x E U
-    (cond (names S p) (otherwise (cond (has M S) (changeRows (localRows S (slotOf M S)) v) none) (cond (eqb U 0) (twiceRows S w u) none)) t)
+    (cond (names S p) (otherwise (cond (has M S) (changeRows (localRows S (slotOf M S)) v) none) (cond (eqb U 0) (twiceRows S w u) (givenUp x p))) t)
 signal-any M S p x E U v w u t i a b c d =
     by-cond (Answered M (signal S p) x E U) (names S p)
-    (otherwise (cond (has M S) (changeRows (localRows S (slotOf M S)) v) none) (cond (eqb U 0) (twiceRows S w u) none)) t
+    (otherwise (cond (has M S) (changeRows (localRows S (slotOf M S)) v) none) (cond (eqb U 0) (twiceRows S w u) (givenUp x p))) t
     (λ n. whole (signal S p) x (instead (attempt M S p x E U v i a) exact)) (λ n. signal-unnamed M S p x E U n d)
   where
-    exact : Answers M (Due (signal S p) x E U) E U (list (signal S p) x) (Below (signal S p) x) (cond (eqb U 0) (twiceRows S w u) none)
+    exact : Answers M (Due (signal S p) x E U) E U (list (signal S p) x) (Below (signal S p) x) (cond (eqb U 0) (twiceRows S w u) (givenUp x p))
     exact =
-        by-cond (Answers M (Due (signal S p) x E U) E U (list (signal S p) x) (Below (signal S p) x)) (eqb U 0) (twiceRows S w u) none
+        by-cond (Answers M (Due (signal S p) x E U) E U (list (signal S p) x) (Below (signal S p) x)) (eqb U 0) (twiceRows S w u) (givenUp x p)
         (λ e. subst (λ (z : ℕ). Answers M (Due (signal S p) x E z) E z (list (signal S p) x) (Below (signal S p) x) (twiceRows S w u)) (sym (eqb-equal U 0 e)) (twice M S p x E b c))
-        (λ e. wants (λ z. clash (ap (λ (y : ℕ). eqb y 0) z) e))
+        (λ e. given-up M S p x E U i (λ z. clash (ap (λ (y : ℕ). eqb y 0) z) e))
 
 -- ---- all kinds
 answered : (M : ℕ) (p : Statement) (x : State) (E U : ℕ) → Within U M → Answered M p x E U (cappedRows M p x E U)

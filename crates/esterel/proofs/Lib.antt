@@ -32,4 +32,5 @@ pub mod UnnamedLists
 pub mod Told
 pub mod CappedArms
 pub mod CappedRows
+pub mod AbsentRows
 pub mod RowExamples

@@ -14,7 +14,7 @@ use Rattle.esterel.specs.Reactions.{start, reachedTogether}
 use Rattle.esterel.specs.Listing.{reaction, before, insert, sorted, each, pair, together, list, needs, some as some-of, crowdedWithin, crowded}
 use Rattle.esterel.specs.inner.Conditions.{slotOf, condition, always, both, clashes, forget}
 use Rattle.esterel.specs.inner.Rows.{rowWhen, eachRow, given, then, tested, asked, emitRows, localRow, localRows, hideRows, togetherRows, rowsOf, Agree, Quiet}
-use Rattle.esterel.specs.inner.CappedRows.{lessOr, beforeRow, insertRow, sortedRows, capRows, collectRows, changeRows, joinRows, otherwise, twiceRows, cappedRows}
+use Rattle.esterel.specs.inner.CappedRows.{lessOr, beforeRow, insertRow, sortedRows, capRows, collectRows, changeRows, joinRows, otherwise, givenUp, twiceRows, cappedRows}
 use Rattle.esterel.proofs.Quiet.{few, quiet}
 
 -- the test of the local signal 0 is settled by its emit, which leaves a condition on the unknown signal 1
@@ -48,7 +48,7 @@ unfolding slotOf cappedRows names otherwise changeRows joinRows twiceRows collec
 doubled = refl
 
 pub without-slot : cappedRows (only 1) (signal 0 (present 0 (emit 0) nothing)) start 0 (only 1) ≡ none
-unfolding cappedRows names otherwise has only
+unfolding cappedRows names otherwise givenUp has only
 without-slot = refl
 
 -- refusal 15 is not due, with 1 and without it

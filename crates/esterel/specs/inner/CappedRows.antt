@@ -79,6 +79,11 @@ unfoldable pub otherwise : CappedRows → CappedRows → CappedRows
 otherwise none w = w
 otherwise (some ws) w = some ws
 
+-- p is not listed where signals are unknown; but a resumed part that the state has no label of has no rows, and is not looked into
+unfoldable pub givenUp : State → Statement → CappedRows
+givenUp start p = none
+givenUp (resumed X) p = cond (eqb (X intersect pauses p) 0) (some []) none
+
 -- the two lists of a body, with S present and with S absent, as one
 unfoldable pub twiceRows : ℕ → CappedRows → CappedRows → CappedRows
 twiceRows S v w = joinRows _++_ (changeRows (hideRows S) v) w
@@ -100,7 +105,7 @@ cappedRows M (exit d) (resumed X) E U = some []
 cappedRows M (signal S p) x E U =
     cond (names S p)
     (otherwise (cond (has M S) (changeRows (localRows S (slotOf M S)) (cappedRows M p x E (U union only S))) none)
-    (cond (eqb U 0) (twiceRows S (cappedRows M p x (E union only S) 0) (cappedRows M p x (E without S) 0)) none))
+    (cond (eqb U 0) (twiceRows S (cappedRows M p x (E union only S) 0) (cappedRows M p x (E without S) 0)) (givenUp x p)))
     (cappedRows M p x E U)
 cappedRows M (present S p q) start E U =
     cond (has U S) (joinRows (tested (slotOf M S)) (cappedRows M p start E U) (cappedRows M q start E U))
