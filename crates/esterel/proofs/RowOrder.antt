@@ -62,7 +62,7 @@ row-yes w v h =
     less-yes (w .reacts .emitted) (v .reacts .emitted) (less-yes (w .reacts .code) (v .reacts .code)
     (less-yes (w .when .on) (v .when .on) (less-yes (w .when .off) (v .when .off) (ltb-true (w .reacts .reached) (v .reacts .reached))))) h
 
-row-same : (w v : Row) → beforeRow w v ≡ false → beforeRow v w ≡ false → w ≡ v
+pub row-same : (w v : Row) → beforeRow w v ≡ false → beforeRow v w ≡ false → w ≡ v
 unfolding beforeRow
 row-same w v a b =
     let (o, a1, b1) = less-same (w .reacts .emitted) (v .reacts .emitted) a b in
@@ -74,7 +74,7 @@ row-same w v a b =
     let l : w .reacts .reached ≡ v .reacts .reached = omega arith in
     λ z. record { when = record { on = n z; off = f z }; reacts = record { emitted = o z; code = k z; reached = l z } }
 
-row-trans : (u v w : Row) → BeforeRow u v → BeforeRow v w → BeforeRow u w
+pub row-trans : (u v w : Row) → BeforeRow u v → BeforeRow v w → BeforeRow u w
 row-trans u v w = less-trans (less-trans (less-trans (less-trans (λ h k. omega arith))))
 
 -- ---- sorting
@@ -115,7 +115,7 @@ insert-old u w (v ∷ vs) h =
     go ih (inl e) = inl e
     go ih (inr k) = inr (ih k)
 
-insert-rising : (w : Row) (vs : List Row) → RisingRows vs → RisingRows (insertRow w vs)
+pub insert-rising : (w : Row) (vs : List Row) → RisingRows vs → RisingRows (insertRow w vs)
 unfolding insertRow
 insert-rising w [] h = (λ u m. absurd m, tt)
 insert-rising w (v ∷ vs) h =
