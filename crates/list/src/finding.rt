@@ -118,7 +118,7 @@ fn answer_for(n: usize) -> Answer
         return Answer::Listed(n as u32);
     }
     if n == area::REFUSED {
-        return Answer::Refused(6);
+        return Answer::Refused(table::NO_KIND);
     }
     Answer::Refused(15)
 }
