@@ -1,7 +1,7 @@
 -- The summary of a statement from those of its children, kind by kind. A label is of one child at most, and from the label of
 -- one child the other is not resumed.
 use mathlib.Core.Path.{_≡_, refl, sym, ap, ap₂, _∙_, subst}
-use mathlib.Core.Bool.{Bool, true, false, cond, _&&_, _||_}
+use mathlib.Core.Bool.{Bool, true, false, cond, _&&_, _||_, and-true, and-false}
 use mathlib.Core.List.{List}
 use Prim.Native.Nat.{ℕ, _<_}
 use native.Mathlib.Decide.{ℕ-discrete}
@@ -16,7 +16,7 @@ use Rattle.table.specs.inner.Places.{Placed, placed}
 use Rattle.reach.specs.declared.summary.Summary.{Summary}
 use Rattle.reach.specs.inner.CodeSets.{codesOf, followedBy}
 use Rattle.reach.specs.inner.Summaries.{resumedFrom, Changed, LoweredEach, Follows, Outline, outline, outlineOf, sequenceOutline, Summarised}
-use Rattle.reach.proofs.CodeSets.{goes-on, stops, and-true, and-false}
+use Rattle.reach.proofs.CodeSets.{goes-on, stops}
 
 none-followed : (S : Codes) → followedBy none S ≡ none
 unfolding followedBy join minusZero none _union_
