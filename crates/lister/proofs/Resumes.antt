@@ -27,10 +27,10 @@ use Rattle.area.specs.inner.Layout.{conditionIn}
 use Rattle.area.specs.inner.Rules.{product}
 use Rattle.area.specs.inner.Area.{Made, Beside}
 use Rattle.area.proofs.Made.{made-as, made-need, made-empty}
+use Rattle.area.proofs.Rules.{product-parallel}
 use Rattle.lister.specs.inner.Notes.{placeAt, partAt, PausesFrom, Startable, Resumable}
 use Rattle.lister.specs.inner.Joins.{roomFor, Above, MadeOne, FollowedAgain}
 use Rattle.lister.proofs.Nodes.{is-nothing, is-pause, is-gotopause, is-emit, is-exit, is-signal, is-loop}
-use Rattle.lister.proofs.Clashes.{together-is}
 use Rattle.lister.proofs.Joins.{beside-top, joined, followed}
 use Rattle.lister.proofs.Starts.{Child, ready-at, as-statement, present-at, sequence-at, parallel-at}
 
@@ -180,4 +180,4 @@ module _ {xs ends : List ℕ} {at : ℕ} (ready : Startable xs ends at) (M X E U
     unfolding besideRows
     resumed-both e h k m =
         beside-is e false false (ne-eqb (X intersect pauses (partAt xs (at + 1))) 0 h) (ne-eqb (X intersect pauses (partAt xs q)) 0 k)
-        (made-as m (ap (λ (g : List Row → List Row → List Row). joinRows g (child (at + 1)) (child q)) together-is))
+        (made-as m (ap (λ (g : List Row → List Row → List Row). joinRows g (child (at + 1)) (child q)) product-parallel))

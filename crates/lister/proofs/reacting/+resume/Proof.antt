@@ -21,12 +21,12 @@ use Rattle.area.specs.declared.Pairing.the-variants.{Parallel}
 use Rattle.area.specs.inner.Rules.{change, product}
 use Rattle.area.specs.inner.Area.{Made, Altered}
 use Rattle.area.proofs.Made.{made-cramped}
+use Rattle.area.proofs.Rules.{capped-clashless}
 use Rattle.lister.specs.inner.Notes.{partAt, Resumable}
 use Rattle.lister.specs.inner.Slots.{Slotted}
 use Rattle.lister.specs.inner.Joins.{roomFor}
 use Rattle.lister.proofs.Nodes.{not-known}
 use Rattle.lister.proofs.Slots.{slotted-more, slotted-none}
-use Rattle.lister.proofs.Clashes.{capped-clashless}
 use Rattle.lister.proofs.Joins.{altered, standing, followed}
 use Rattle.lister.proofs.Signals.{attempted, GaveUp, signal-unnamed, signal-tried, gave-up, not-tried, signal-passed, signal-twice}
 use Rattle.lister.proofs.Starts.{Child, place-few, ready-at, child-signal, child-present, child-else, child-sequence, child-then, child-parallel, child-beside, child-loop, child-try, list-try}
