@@ -1,32 +1,54 @@
 -- The slots of the signals that may be unknown: there are at most 12 of them.
-use mathlib.Core.Path.{_≡_, refl, sym, ap, subst}
-use mathlib.Core.Bool.{Bool, true, false, cond}
-use Prim.Native.Nat.{ℕ, zero, suc, _+_, _-_, _≤_, _<_}
+use mathlib.Core.Path.{_≡_, sym, ap, subst, _∙_}
+use mathlib.Core.Logic.{_⊎_, inl, inr}
+use mathlib.Core.Bool.{Bool, true, cond}
+use Prim.Native.Nat.{ℕ, zero, suc, _+_, _-_, _/_, _%_, _^_, _≤_, _<_}
 use native.Mathlib.Omega.{arith}
+use native.Mathlib.Nat.{mod-lt}
+use lib.Dec.{eqb}
+use lib.Bits.{bitAnd, and-mask, and-le-l}
+use lib.Count.{onesIn, ones, ones-cat, ones-le}
+use lib.Pow.{pow-pos, mod-pow-add}
 use Rattle.sets.specs.Set.{has, only, _union_, Within}
 use Rattle.sets.proofs.Booleans.{clash}
-use Rattle.sets.proofs.Members.{has-empty}
+use Rattle.sets.proofs.Members.{bit, has-shift, has-empty, only-fits}
 use Rattle.esterel.specs.inner.Conditions.{slotOf}
 use Rattle.esterel.proofs.Unknown.{inside-too}
 use Rattle.lister.specs.inner.Slots.{Slotted}
 
 -- one more signal
-pub slot-next : (M S : ℕ) → slotOf M (S + 1) ≡ slotOf M S + cond (has M S) 1 0
+slot-next : (M S : ℕ) → slotOf M (S + 1) ≡ slotOf M S + cond (has M S) 1 0
 unfolding slotOf
 slot-next M S = let e : S + 1 ≡ suc S = omega arith in ap (slotOf M) e
 
-pub slot-start : (M : ℕ) → slotOf M 0 ≡ 0
-unfolding slotOf
-slot-start M = refl
+-- ---- as the bits below the signal's own
+one-bit : (b : ℕ) → (b ≡ 0) ⊎ (b ≡ 1) → ones b ≡ cond (eqb b 1) 1 0
+unfolding ones onesIn
+one-bit b (inl e) = ap (λ (z : ℕ). ones z) e ∙ sym (ap (λ (z : ℕ). cond {A = ℕ} (eqb z 1) 1 0) e)
+one-bit b (inr e) = ap (λ (z : ℕ). ones z) e ∙ sym (ap (λ (z : ℕ). cond {A = ℕ} (eqb z 1) 1 0) e)
 
-pub at-most : (b : Bool) → cond b 1 0 ≤ 1
-at-most true = omega arith
-at-most false = omega arith
+slot-ones : (M S : ℕ) → ones (M % 2 ^ S) ≡ slotOf M S
+unfolding slotOf ones onesIn
+slot-ones M zero = let e : M % 2 ^ zero ≡ 0 = omega arith in ap (λ (z : ℕ). ones z) e
+slot-ones M (suc S) =
+    let e : suc S ≡ 1 + S = omega arith in
+    let b : ℕ = M / 2 ^ S % 2 in
+    let g : ones b ≡ cond (has M S) 1 0 = one-bit b (bit (M / 2 ^ S)) ∙ ap (λ (z : Bool). cond {A = ℕ} z 1 0) (sym (has-shift M S)) in
+    let s : ones b + ones (M % 2 ^ S) ≡ slotOf M S + cond (has M S) 1 0 = let h = slot-ones M S in omega arith in
+    ap (λ (z : ℕ). ones (M % 2 ^ z)) e ∙ ap ones (mod-pow-add M 1 S) ∙ ones-cat S b (M % 2 ^ S) (mod-lt M (pow-pos S)) ∙ s
 
-pub slot-most : (M S : ℕ) → slotOf M S ≤ S
-unfolding slotOf
-slot-most M zero = omega arith
-slot-most M (suc S) = let h = slot-most M S in let k = at-most (has M S) in omega arith
+pub slot-count : (M S own : ℕ) → S < 64 → own ≡ only S % 2 ^ 64 → ones (bitAnd M (own - 1)) ≡ slotOf M S
+unfolding only
+slot-count M S own h e = ap (λ (z : ℕ). ones (bitAnd M (z - 1))) (e ∙ only-fits 64 S h) ∙ ap ones (and-mask M S) ∙ slot-ones M S
+
+pub own-there : (S own : ℕ) → S < 64 → own ≡ only S % 2 ^ 64 → 1 ≤ own
+unfolding only
+own-there S own h e = let f = only-fits 64 S h in let p = pow-pos S in omega arith
+
+pub slot-short : (M b : ℕ) → M < 2 ^ 64 → ones (bitAnd M b) ≤ 64
+slot-short M b h = ones-le 64 (bitAnd M b) (let l = and-le-l M b in omega arith)
+
+-- ---- there are few
 
 slot-rises : (M S d : ℕ) → slotOf M S ≤ slotOf M (d + S)
 unfolding slotOf

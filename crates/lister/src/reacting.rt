@@ -13,12 +13,11 @@ use table::MOST_NODES;
 use table::kind_of;
 use table::operand_of;
 ghost use mathlib.Core.Path.{_≡_};
-ghost use mathlib.Core.Bool.{false, cond};
+ghost use mathlib.Core.Bool.{false};
 ghost use mathlib.Core.List.{[], _∷_, _++_};
 ghost use mathlib.Core.Option.{some};
 ghost use Prim.Native.Nat.{_+_, _*_, _^_, _≤_, _<_};
 ghost use lib.ListN.{length};
-ghost use Rattle.sets.specs.Set.{has};
 ghost use Rattle.esterel.specs.Statement.{pause, emit, exit};
 ghost use Rattle.esterel.specs.Reactions.{start as started, resumed};
 ghost use Rattle.esterel.specs.Listing.{reaction, someEnds};
@@ -64,24 +63,14 @@ fn named(nodes: &[u16; MOST_NODES], ends: &[u16; MOST_NODES], at: usize, signal:
     false
 }
 
-// 1 for a member of a set.
-fn one_if(set: u64, number: u8) -> u8
-    ensures { λ r. ⌜ r ≡ cond (has set number) 1 0 ⌝ }
-{
-    if sets::contains(set, number) { 1 } else { 0 }
-}
-
 // The slot of a signal: how many members of the set are below it.
 fn slot_of(slotted: u64, signal: u8) -> u8
+    requires { ⌜ signal < 64 ⌝ }
     ensures { λ r. ⌜ r ≡ slotOf slotted signal ⌝ }
 {
-    let mut slot = 0;
-    let mut i = 0;
-    while i < signal {
-        slot += one_if(slotted, i);
-        i += 1;
-    }
-    slot
+    let own = sets::singleton(signal);
+    let below = own - 1;
+    u64::count_ones(slotted & below) as u8
 }
 
 // The list of one row, where there is room for it.

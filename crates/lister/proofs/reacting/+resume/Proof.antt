@@ -366,7 +366,9 @@ module _ (t : ℕ) where
       )
 
   slot-of-requires : resume-lts.Need-slot-of-requires (claims t) (resume-at t) resume.Post
-  slot-of-requires c κs = tt
+  slot-of-requires c κs =
+      let g = c .before .before in
+      below-64 t (arm t (g .before .before .before .before) .before)
 
   alter-requires : resume-lts.Need-alter-requires (claims t) (resume-at t) resume.Post
   alter-requires c κs = let g = c .before .before .before .before in λ h. omega (arith, g .resume2 .ensures .fits h, g .resume2 .ensures .same)

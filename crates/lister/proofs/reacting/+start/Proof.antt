@@ -402,7 +402,9 @@ module _ (t : ℕ) where
       )
 
   slot-of-requires : start-lts.Need-slot-of-requires (claims t) (start-at t) start.Post
-  slot-of-requires c κs = tt
+  slot-of-requires c κs =
+      let g = c .before .before in
+      below-64 t (arm t (g .before .before .before .before) .before)
 
   alter-requires : start-lts.Need-alter-requires (claims t) (start-at t) start.Post
   alter-requires c κs = let g = c .before .before .before .before in λ h. omega (arith, g .start2 .ensures .fits h, g .start2 .ensures .same)
@@ -493,7 +495,7 @@ module _ (t : ℕ) where
   contains-requires-2 c κs = tt
 
   slot-of-requires-2 : start-lts.Need-slot-of-requires-2 (claims t) (start-at t) start.Post
-  slot-of-requires-2 c κs = tt
+  slot-of-requires-2 c κs = below-64 t (c .before .before .before .before)
 
   start-requires-5 : start-lts.Need-start-requires-5 (claims t) (start-at t) start.Post
   start-requires-5 c κs =
