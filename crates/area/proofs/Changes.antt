@@ -1,22 +1,26 @@
--- Each reaction of a list changed, in place: what is done never passes what is read.
+-- Each row of a list changed, in place: what is done never passes what is read.
 use mathlib.Core.Path.{_≡_, refl, sym, ap, _∙_, subst}
-use mathlib.Core.Bool.{true, false}
+use mathlib.Core.Bool.{Bool, true, false}
 use mathlib.Core.List.{List, [], _∷_, _++_}
-use Prim.Native.Nat.{ℕ, zero, suc, _+_, _*_, _-_, _/_, _%_, _≤_, _<_}
+use Prim.Native.Nat.{ℕ, zero, suc, _+_, _*_, _-_, _/_, _%_, _^_, _≤_, _<_}
 use native.Mathlib.Omega.{arith}
+use lib.Bits.{bitOr}
 use lib.ListN.{length, getD}
 use borrow.Author.Tests.{eq-eqb, ne-eqb}
 use Rattle.sets.specs.Set.{has, _without_}
 use Rattle.esterel.specs.Codes.{through}
-use Rattle.esterel.specs.Reactions.{Reaction}
-use Rattle.esterel.specs.Listing.{Rising, reaction, each, sorted, someEnds}
+use Rattle.esterel.specs.Listing.{reaction, someEnds}
+use Rattle.esterel.specs.inner.Conditions.{both, clashes, forget}
+use Rattle.esterel.specs.inner.Rows.{Row, rowWhen, reactions, eachRow, hidden, localRow}
+use Rattle.esterel.specs.inner.CappedRows.{sortedRows, capRows, collectRows}
 use Rattle.area.specs.declared.Change.{Change}
-use Rattle.area.specs.declared.Change.the-variants.{Hide, Going, Caught}
-use Rattle.area.specs.inner.Rules.{changed, change}
-use Rattle.esterel.proofs.Order.{sorted-of-rising}
-use Rattle.area.specs.inner.Area.{packed, rowAt, rows, cap, collect, Made, Put}
+use Rattle.area.specs.declared.Change.the-variants.{Hide, Local, Given, Going, Caught}
+use Rattle.area.specs.inner.Layout.{conditionIn, packed}
+use Rattle.area.specs.inner.Rules.{unlessClash, changed, change}
+use Rattle.area.specs.inner.Area.{rowAt, rows, InOrder, Made, Put}
+use Rattle.area.proofs.Order.{sorted-there}
 use Rattle.area.proofs.Members.{same-as, cap-some}
-use Rattle.area.proofs.Rows.{row-agree, rows-cons, rows-done, rows-whole, rows-length, packed-word}
+use Rattle.area.proofs.Rows.{row-agree, rows-cons, rows-done, rows-whole, rows-length, packed-as, condition-low, condition-both}
 use Rattle.area.proofs.Made.{made-as, Filling, filling-empty, filling-step, filling-end}
 
 pub through-below : (k : ℕ) → through k ≤ k
@@ -26,42 +30,90 @@ through-below (suc zero) = omega arith
 through-below (suc (suc zero)) = omega arith
 through-below (suc (suc (suc k))) = omega arith
 
--- ---- what becomes of a reaction
+-- ---- what becomes of a row
+module _ (w l : ℕ) where
+  pub clash-none : clashes (conditionIn w) ≡ true → unlessClash (packed w l) ≡ []
+  unfolding unlessClash packed
+  clash-none e = rw e
+
+  pub clash-one : clashes (conditionIn w) ≡ false → unlessClash (packed w l) ≡ packed w l ∷ []
+  unfolding unlessClash packed
+  clash-one e = rw e
+
+  module _ (S s o : ℕ) (f : o ≡ w / 2 ^ 32) where
+    abbrev emits : (b : Bool) → has o S ≡ b → has (w / 2 ^ 32) S ≡ b
+    emits b h = sym (ap (λ (z : ℕ). has z S) f) ∙ h
+
+    pub local-gone : (y : ℕ) → has o S ≡ false → y ≡ w / 2 ^ 12 % 2 ^ 12 → has y s ≡ true → localRow S s (packed w l) ≡ []
+    unfolding localRow packed
+    local-gone y h e k =
+        let i : has (w / 2 ^ 12 % 2 ^ 12) s ≡ true = sym (ap (λ (z : ℕ). has z s) e) ∙ k in
+        rw (emits false h, i)
+
+    module _ (k d : ℕ) (g : k ≡ w / 2 ^ 24 % 256) (small : d < 2 ^ 24) (c : conditionIn d ≡ forget s (conditionIn w)) where
+      pub local-present : (others x : ℕ) → has o S ≡ true → others ≡ o without S → x ≡ (others * 256 + k) * 2 ^ 24 + d → localRow S s (packed w l) ≡ packed x l ∷ []
+      unfolding localRow packed
+      local-present others x h e i =
+          let t : others ≡ (w / 2 ^ 32) without S = e ∙ ap (λ (z : ℕ). z without S) f in
+          let u : localRow S s (packed w l) ≡ rowWhen (forget s (conditionIn w)) (hidden S (packed w l .reacts)) ∷ [] = rw (emits true h) in
+          u ∙ ap (λ (y : Row). y ∷ []) (sym (packed-as x others k d l (rowWhen (forget s (conditionIn w)) (hidden S (packed w l .reacts))) i (omega arith) small c t g refl))
+
+      pub local-absent : (y x : ℕ) → has o S ≡ false → y ≡ w / 2 ^ 12 % 2 ^ 12 → has y s ≡ false → x ≡ (o * 256 + k) * 2 ^ 24 + d → localRow S s (packed w l) ≡ packed x l ∷ []
+      unfolding localRow packed
+      local-absent y x h e j i =
+          let n : has (w / 2 ^ 12 % 2 ^ 12) s ≡ false = sym (ap (λ (z : ℕ). has z s) e) ∙ j in
+          let u : localRow S s (packed w l) ≡ rowWhen (forget s (conditionIn w)) (packed w l .reacts) ∷ [] = rw (emits false h, n) in
+          u ∙ ap (λ (y : Row). y ∷ []) (sym (packed-as x o k d l (rowWhen (forget s (conditionIn w)) (packed w l .reacts)) i (omega arith) small c f g refl))
+
 module _ (c : Change) (w l : ℕ) where
   abbrev as-changed : (d : Change) → c ≡ d → changed c (packed w l) ≡ changed d (packed w l)
   as-changed d e = ap (λ (y : Change). changed y (packed w l)) e
 
-  pub hide-none : (S o : ℕ) → c ≡ Hide S → o ≡ w / 256 → has o S ≡ false → changed c (packed w l) ≡ []
+  pub hide-none : (S o : ℕ) → c ≡ Hide S → o ≡ w / 2 ^ 32 → has o S ≡ false → changed c (packed w l) ≡ []
   unfolding changed packed
   hide-none S o e f h = as-changed (Hide S) e ∙ rw (sym (ap (λ (z : ℕ). has z S) f) ∙ h)
 
-  pub hide-one : (S o rest k x : ℕ) → c ≡ Hide S → o ≡ w / 256 → has o S ≡ true → rest ≡ o without S → k ≡ w % 256 → x ≡ rest * 256 + k
-      → changed c (packed w l) ≡ packed x l ∷ []
+  pub hide-one : (S o rest k d x : ℕ) → c ≡ Hide S → o ≡ w / 2 ^ 32 → has o S ≡ true → rest ≡ o without S → k ≡ w / 2 ^ 24 % 256 → d ≡ w % 2 ^ 24
+      → x ≡ (rest * 256 + k) * 2 ^ 24 + d → changed c (packed w l) ≡ packed x l ∷ []
   unfolding changed packed
-  hide-one S o rest k x e f h g i j =
-      let u : changed (Hide S) (packed w l) ≡ reaction ((w / 256) without S) (w % 256) l ∷ [] = rw (sym (ap (λ (z : ℕ). has z S) f) ∙ h) in
-      let v : reaction ((w / 256) without S) (w % 256) l ≡ reaction rest k l = cc in
-      as-changed (Hide S) e ∙ u ∙ ap (λ (y : Reaction). y ∷ []) (v ∙ sym (packed-word x rest k l j (omega arith)))
+  hide-one S o rest k d x e f h g i j n =
+      let t : rest ≡ (w / 2 ^ 32) without S = g ∙ ap (λ (z : ℕ). z without S) f in
+      let u : changed (Hide S) (packed w l) ≡ rowWhen (conditionIn w) (hidden S (packed w l .reacts)) ∷ [] = rw (sym (ap (λ (z : ℕ). has z S) f) ∙ h) in
+      as-changed (Hide S) e ∙ u
+      ∙ ap (λ (y : Row). y ∷ []) (sym (packed-as x rest k d l (rowWhen (conditionIn w) (hidden S (packed w l .reacts))) n (omega arith) (omega arith) (condition-low d w j) t i refl))
 
-  pub going-none : c ≡ Going → w % 256 ≡ 0 → changed c (packed w l) ≡ []
-  unfolding changed packed
-  going-none e z = as-changed Going e ∙ rw (eq-eqb (w % 256) 0 z)
+  pub local-is : (S s : ℕ) → c ≡ Local S s → changed c (packed w l) ≡ localRow S s (packed w l)
+  unfolding changed
+  local-is S s e = as-changed (Local S s) e
 
-  pub going-one : c ≡ Going → (w % 256 ≡ 0 → ⊥) → changed c (packed w l) ≡ packed w l ∷ []
+  pub given-is : (a d o k x : ℕ) → c ≡ Given a → d ≡ bitOr a w % 2 ^ 24 → o ≡ w / 2 ^ 32 → k ≡ w / 2 ^ 24 % 256 → x ≡ (o * 256 + k) * 2 ^ 24 + d
+      → changed c (packed w l) ≡ unlessClash (packed x l)
   unfolding changed packed
-  going-one e z = as-changed Going e ∙ rw (ne-eqb (w % 256) 0 z)
+  given-is a d o k x e f g h i =
+      as-changed (Given a) e
+      ∙ ap unlessClash (sym (packed-as x o k d l (rowWhen (both (conditionIn a) (conditionIn w)) (packed w l .reacts)) i (omega arith) (omega arith) (condition-both d a w f) g h refl))
 
-  pub caught-one : (o j k x : ℕ) → c ≡ Caught → o ≡ w / 256 → j ≡ w % 256 → k ≡ through j → x ≡ o * 256 + k → changed c (packed w l) ≡ packed x l ∷ []
+  pub going-none : c ≡ Going → w / 2 ^ 24 % 256 ≡ 0 → changed c (packed w l) ≡ []
   unfolding changed packed
-  caught-one o j k x e f g h i =
+  going-none e z = as-changed Going e ∙ rw (eq-eqb (w / 2 ^ 24 % 256) 0 z)
+
+  pub going-one : c ≡ Going → (w / 2 ^ 24 % 256 ≡ 0 → ⊥) → changed c (packed w l) ≡ packed w l ∷ []
+  unfolding changed packed
+  going-one e z = as-changed Going e ∙ rw (ne-eqb (w / 2 ^ 24 % 256) 0 z)
+
+  pub caught-one : (o j k d x : ℕ) → c ≡ Caught → o ≡ w / 2 ^ 32 → j ≡ w / 2 ^ 24 % 256 → k ≡ through j → d ≡ w % 2 ^ 24
+      → x ≡ (o * 256 + k) * 2 ^ 24 + d → changed c (packed w l) ≡ packed x l ∷ []
+  unfolding changed packed
+  caught-one o j k d x e f g h n i =
       let b = through-below j in
-      let v : reaction (w / 256) (through (w % 256)) l ≡ reaction o k l = cc in
-      as-changed Caught e ∙ ap (λ (y : Reaction). y ∷ []) (v ∙ sym (packed-word x o k l i (omega arith)))
+      let t : k ≡ through (w / 2 ^ 24 % 256) = h ∙ ap through g in
+      as-changed Caught e
+      ∙ ap (λ (y : Row). y ∷ []) (sym (packed-as x o k d l (rowWhen (conditionIn w) (reaction (w / 2 ^ 32) (through (w / 2 ^ 24 % 256)) l)) i (omega arith) (omega arith) (condition-low d w n) f t refl))
 
--- ---- one reaction, or none, put among m
-module _ (a : List ℕ) (base m : ℕ) (xs : List Reaction) where
-  pub put-none : m ≤ 64 → base + 2 * m + 2 ≤ length a → Rising (rows a base m) → xs ≡ [] → Put a a base m (collect (xs ++ rows a base m)) m
-  unfolding collect
+-- ---- one row, or none, put among m
+module _ (a : List ℕ) (base m : ℕ) (xs : List Row) where
+  pub put-none : m ≤ 64 → base + 2 * m + 2 ≤ length a → InOrder (rows a base m) → xs ≡ [] → Put a a base m (collectRows (xs ++ rows a base m)) m
+  unfolding collectRows
   put-none h f r e =
       let k = rows-length a base m in
       record {
@@ -69,7 +121,7 @@ module _ (a : List ℕ) (base m : ℕ) (xs : List Reaction) where
           same = refl;
           low = λ i b. refl;
           fits = λ b. omega arith;
-          listed = λ b. ap (λ (z : List Reaction). cap (sorted (z ++ rows a base m))) e ∙ ap cap (sorted-of-rising (rows a base m) r) ∙ cap-some (rows a base m) (omega arith);
+          listed = λ b. ap (λ (z : List Row). capRows (sortedRows (z ++ rows a base m))) e ∙ ap capRows (sorted-there (rows a base m) r) ∙ cap-some (rows a base m) (omega arith);
           rising = λ b. r;
           over = λ b. absurd (omega arith);
           cramped = λ b. absurd (omega arith);
@@ -78,8 +130,8 @@ module _ (a : List ℕ) (base m : ℕ) (xs : List Reaction) where
         count = omega arith;
       }
 
-  pub put-one : {b : List ℕ} {r : ℕ} (x : Reaction) → xs ≡ x ∷ [] → Put a b base m (collect (x ∷ rows a base m)) r → Put a b base m (collect (xs ++ rows a base m)) r
-  put-one x e p = record { made = made-as (p .made) (ap (λ (z : List Reaction). collect (z ++ rows a base m)) (sym e)); high = p .high; count = p .count }
+  pub put-as : {b : List ℕ} {r : ℕ} (ys : List Row) → xs ≡ ys → Put a b base m (collectRows (ys ++ rows a base m)) r → Put a b base m (collectRows (xs ++ rows a base m)) r
+  put-as ys e p = record { made = made-as (p .made) (ap (λ (z : List Row). collectRows (z ++ rows a base m)) (sym e)); high = p .high; count = p .count }
 
 -- ---- m are done at base, and those from the i-th on stand as they did
 pub record Altering (c : Change) (a₀ a : List ℕ) (base n m i : ℕ) : Type 0 where
@@ -93,12 +145,12 @@ altering-start c a base n h = record {
   within = omega arith;
   behind = omega arith;
   rest = λ k b. refl;
-  filling = subst (λ (z : List Reaction). Filling a a base 0 z (change c (rows a base n))) (ap (change c) (sym (rows-whole a base n))) (filling-empty a base (change c (rows a base n)) h);
+  filling = subst (λ (z : List Row). Filling a a base 0 z (change c (rows a base n))) (ap (change c) (sym (rows-whole a base n))) (filling-empty a base (change c (rows a base n)) h);
 }
 
 module _ (c : Change) (a₀ a : List ℕ) (base n m i : ℕ) (t : Altering c a₀ a base n m i) where
-  pub altering-step : (b : List ℕ) (r : ℕ) → i < n → n ≤ 64 → Put a b base m (collect (changed c (rowAt a (base + 2 * i)) ++ rows a base m)) r → Altering c a₀ b base n r (i + 1)
-  unfolding change each
+  pub altering-step : (b : List ℕ) (r : ℕ) → i < n → n ≤ 64 → Put a b base m (collectRows (changed c (rowAt a (base + 2 * i)) ++ rows a base m)) r → Altering c a₀ b base n r (i + 1)
+  unfolding change eachRow
   altering-step b r h k p =
       let d = t .behind in
       let q = p .count in
@@ -109,23 +161,23 @@ module _ (c : Change) (a₀ a : List ℕ) (base n m i : ℕ) (t : Altering c a�
         rest = λ j g. p .high j (omega arith) ∙ t .rest j (omega arith);
         filling = filling-step (changed c (rowAt a₀ (base + 2 * i))) (change c (rows a₀ (base + 2 * (i + 1)) (n - (i + 1)))) (change c (rows a₀ (base + 2 * i) (n - i))) (t .filling)
             (same-as (ap (change c) (rows-cons a₀ base n i h)))
-            (made-as (p .made) (ap (λ (z : Reaction). collect (changed c z ++ rows a base m)) x)) (omega arith);
+            (made-as (p .made) (ap (λ (z : Row). collectRows (changed c z ++ rows a base m)) x)) (omega arith);
       }
 
-  pub altering-end : n ≤ i → Made a₀ a base 0 (collect (change c (rows a₀ base n))) m
-  unfolding change each
+  pub altering-end : n ≤ i → Made a₀ a base 0 (collectRows (change c (rows a₀ base n))) m
+  unfolding change eachRow
   altering-end h = filling-end 0 (change c (rows a₀ (base + 2 * i) (n - i))) (t .filling) (ap (change c) (rows-done a₀ base n i h))
 
--- ---- a code 0 among the reactions from the i-th on
-module _ (a : List ℕ) (base n i : ℕ) (inv : someEnds (rows a (base + 2 * i) (n - i)) ≡ someEnds (rows a base n)) where
-  pub ends-here : i < n → getD a (base + 2 * i) 0 % 256 ≡ 0 → true ≡ someEnds (rows a base n)
-  unfolding someEnds packed
-  ends-here h e = sym (ap someEnds (rows-cons a base n i h) ∙ rw (eq-eqb (getD a (base + 2 * i) 0 % 256) 0 e)) ∙ inv
+-- ---- a code 0 among the rows from the i-th on
+module _ (a : List ℕ) (base n i : ℕ) (inv : someEnds (reactions (rows a (base + 2 * i) (n - i))) ≡ someEnds (reactions (rows a base n))) where
+  pub ends-here : i < n → getD a (base + 2 * i) 0 / 2 ^ 24 % 256 ≡ 0 → true ≡ someEnds (reactions (rows a base n))
+  unfolding someEnds reactions packed
+  ends-here h e = sym (ap (λ (z : List Row). someEnds (reactions z)) (rows-cons a base n i h) ∙ rw (eq-eqb (getD a (base + 2 * i) 0 / 2 ^ 24 % 256) 0 e)) ∙ inv
 
-  pub ends-next : i < n → (getD a (base + 2 * i) 0 % 256 ≡ 0 → ⊥) → someEnds (rows a (base + 2 * (i + 1)) (n - (i + 1))) ≡ someEnds (rows a base n)
-  unfolding someEnds packed
-  ends-next h e = sym (ap someEnds (rows-cons a base n i h) ∙ rw (ne-eqb (getD a (base + 2 * i) 0 % 256) 0 e)) ∙ inv
+  pub ends-next : i < n → (getD a (base + 2 * i) 0 / 2 ^ 24 % 256 ≡ 0 → ⊥) → someEnds (reactions (rows a (base + 2 * (i + 1)) (n - (i + 1)))) ≡ someEnds (reactions (rows a base n))
+  unfolding someEnds reactions packed
+  ends-next h e = sym (ap (λ (z : List Row). someEnds (reactions z)) (rows-cons a base n i h) ∙ rw (ne-eqb (getD a (base + 2 * i) 0 / 2 ^ 24 % 256) 0 e)) ∙ inv
 
-  pub ends-not : n ≤ i → false ≡ someEnds (rows a base n)
-  unfolding someEnds
-  ends-not h = sym (ap someEnds (rows-done a base n i h)) ∙ inv
+  pub ends-not : n ≤ i → false ≡ someEnds (reactions (rows a base n))
+  unfolding someEnds reactions
+  ends-not h = sym (ap (λ (z : List Row). someEnds (reactions z)) (rows-done a base n i h)) ∙ inv

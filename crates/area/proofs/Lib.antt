@@ -1,3 +1,4 @@
+pub mod Order
 pub mod Members
 pub mod Rows
 pub mod Moves
@@ -6,3 +7,4 @@ pub mod Made
 pub mod Changes
 pub mod Products
 pub mod Merges
+pub mod Rules

@@ -1,18 +1,21 @@
--- Lists that were made, and lists that are being filled: the reactions still to be put in, and those that are, sort to the
+-- Lists that were made, and lists that are being filled: the rows still to be put in, and those that are, sort to the
 -- list that is wanted.
 use mathlib.Core.Path.{_≡_, refl, sym, ap, _∙_, subst}
 use mathlib.Core.List.{List, [], _∷_, _++_}
-use mathlib.Core.Option.{Option, none, some, Option·none-ne-some, Option·some-injective}
+use mathlib.Core.Option.{none, some, Option·none-ne-some, Option·some-injective}
 use Prim.Native.Nat.{ℕ, _+_, _*_, _≤_, _<_}
 use native.Mathlib.Omega.{arith}
 use native.Mathlib.Decide.{decLe}
 use lib.ListN.{length, getD}
-use Rattle.esterel.specs.Reactions.{Reaction}
-use Rattle.esterel.specs.Listing.{Listed, Rising, sorted}
-use Rattle.area.specs.inner.Area.{packed, rowAt, rows, cap, collect, Low, Made, Stored, MovedDown}
+use Rattle.esterel.specs.Listing.{Listed}
+use Rattle.esterel.specs.inner.Rows.{Row}
+use Rattle.esterel.specs.inner.CappedRows.{CappedRows, sortedRows, capRows, collectRows}
+use Rattle.esterel.proofs.Order.{append-left, append-right}
+use Rattle.area.specs.inner.Layout.{packed}
+use Rattle.area.specs.inner.Area.{rowAt, rows, InOrder, Low, Made, Stored, MovedDown}
+use Rattle.area.proofs.Order.{sorted-there}
 use Rattle.area.proofs.Members.{Same, same, same-as, same-sym, same-trans, same-append, same-swap, same-assoc, same-sorted, sorted-equal, sorted-length, cap-some, cap-none}
 use Rattle.area.proofs.Rows.{rows-length}
-use Rattle.esterel.proofs.Order.{sorted-of-rising, append-left, append-right}
 
 -- ---- lists that were made
 pub made-empty : (a : List ℕ) (base : ℕ) → base ≤ length a → Made a a base 0 (some []) 0
@@ -27,67 +30,67 @@ made-single a b q w l h s =
       same = s .same;
       low = s .low;
       fits = λ k. omega arith;
-      listed = λ k. ap (λ (z : Reaction). some (z ∷ [])) (sym x);
+      listed = λ k. ap (λ (z : Row). some (z ∷ [])) (sym x);
       rising = λ k. (λ y m. absurd m, tt);
       over = λ k. absurd (omega arith);
       cramped = λ k. absurd (omega arith);
     }
 
-pub made-as : {a b : List ℕ} {base need n : ℕ} {v w : Option (List Reaction)} → Made a b base need v n → v ≡ w → Made a b base need w n
+pub made-as : {a b : List ℕ} {base need n : ℕ} {v w : CappedRows} → Made a b base need v n → v ≡ w → Made a b base need w n
 made-as m e = record { same = m .same; low = m .low; fits = m .fits; listed = λ h. sym e ∙ m .listed h; rising = m .rising; over = λ h. sym e ∙ m .over h; cramped = m .cramped }
 
 -- what stands there already
-pub made-there : (a : List ℕ) (base need n : ℕ) (v : Option (List Reaction)) → n ≤ 64 → base + 2 * n ≤ length a → Rising (rows a base n) → v ≡ some (rows a base n) → Made a a base need v n
+pub made-there : (a : List ℕ) (base need n : ℕ) (v : CappedRows) → n ≤ 64 → base + 2 * n ≤ length a → InOrder (rows a base n) → v ≡ some (rows a base n) → Made a a base need v n
 made-there a base need n v h k r e = record { same = refl; low = λ i b. refl; fits = λ b. k; listed = λ b. e; rising = λ b. r; over = λ b. absurd (omega arith); cramped = λ b. absurd (omega arith) }
 
 -- over 64
-pub made-over : (a b : List ℕ) (base need n : ℕ) (v : Option (List Reaction)) → length b ≡ length a → Low base a b → n ≡ 65 → v ≡ none → Made a b base need v n
+pub made-over : (a b : List ℕ) (base need n : ℕ) (v : CappedRows) → length b ≡ length a → Low base a b → n ≡ 65 → v ≡ none → Made a b base need v n
 made-over a b base need n v s l h e = record { same = s; low = l; fits = λ k. absurd (omega arith); listed = λ k. absurd (omega arith); rising = λ k. absurd (omega arith); over = λ k. e; cramped = λ k. absurd (omega arith) }
 
 -- the area is too small
-pub made-cramped : (a : List ℕ) (base need n : ℕ) (v : Option (List Reaction)) → 65 < n → length a < need → Made a a base need v n
+pub made-cramped : (a : List ℕ) (base need n : ℕ) (v : CappedRows) → 65 < n → length a < need → Made a a base need v n
 made-cramped a base need n v h k = record { same = refl; low = λ i b. refl; fits = λ b. absurd (omega arith); listed = λ b. absurd (omega arith); rising = λ b. absurd (omega arith); over = λ b. absurd (omega arith); cramped = λ b. k }
 
 -- what was collected, by the number that came back
-pub collected : {a b : List ℕ} {base need n : ℕ} (raw : List Reaction) → Made a b base need (collect raw) n → n ≤ 64 → rows b base n ≡ sorted raw
-unfolding collect
-collected {a} {b} {base} {need} {n} raw m h = go (decLe (length (sorted raw)) 64)
+pub collected : {a b : List ℕ} {base need n : ℕ} (raw : List Row) → Made a b base need (collectRows raw) n → n ≤ 64 → rows b base n ≡ sortedRows raw
+unfolding collectRows
+collected {a} {b} {base} {need} {n} raw m h = go (decLe (length (sortedRows raw)) 64)
   where
-    go : Dec (length (sorted raw) ≤ 64) → rows b base n ≡ sorted raw
-    go (yes k) = Option·some-injective _ _ (sym (m .listed h) ∙ cap-some (sorted raw) k)
-    go (no k) = absurd (Option·none-ne-some _ (sym (cap-none (sorted raw) (omega arith)) ∙ m .listed h))
+    go : Dec (length (sortedRows raw) ≤ 64) → rows b base n ≡ sortedRows raw
+    go (yes k) = Option·some-injective _ _ (sym (m .listed h) ∙ cap-some (sortedRows raw) k)
+    go (no k) = absurd (Option·none-ne-some _ (sym (cap-none (sortedRows raw) (omega arith)) ∙ m .listed h))
 
-pub collected-over : {a b : List ℕ} {base need n : ℕ} (raw : List Reaction) → Made a b base need (collect raw) n → n ≡ 65 → 64 < length (sorted raw)
-unfolding collect
-collected-over {a} {b} {base} {need} {n} raw m h = go (decLe (length (sorted raw)) 64)
+pub collected-over : {a b : List ℕ} {base need n : ℕ} (raw : List Row) → Made a b base need (collectRows raw) n → n ≡ 65 → 64 < length (sortedRows raw)
+unfolding collectRows
+collected-over {a} {b} {base} {need} {n} raw m h = go (decLe (length (sortedRows raw)) 64)
   where
-    go : Dec (length (sorted raw) ≤ 64) → 64 < length (sorted raw)
-    go (yes k) = absurd (Option·none-ne-some _ (sym (m .over h) ∙ cap-some (sorted raw) k))
+    go : Dec (length (sortedRows raw) ≤ 64) → 64 < length (sortedRows raw)
+    go (yes k) = absurd (Option·none-ne-some _ (sym (m .over h) ∙ cap-some (sortedRows raw) k))
     go (no k) = omega arith
 
 -- ---- a list at top that is being filled: `todo` is still to be put in, and `goal` comes of it
-pub record Filling (a₀ a : List ℕ) (top n : ℕ) (todo goal : List Reaction) : Type 0 where
+pub record Filling (a₀ a : List ℕ) (top n : ℕ) (todo goal : List Row) : Type 0 where
   pub small : n ≤ 64
   pub same : length a ≡ length a₀
   pub low : Low top a₀ a
   pub fits : top + 2 * n ≤ length a₀
-  pub rising : Rising (rows a top n)
+  pub rising : InOrder (rows a top n)
   pub sum : Same (todo ++ rows a top n) goal
 
-pub filling-start : (a : List ℕ) (top n : ℕ) (todo : List Reaction) → n ≤ 64 → top + 2 * n ≤ length a → Rising (rows a top n) → Filling a a top n todo (todo ++ rows a top n)
+pub filling-start : (a : List ℕ) (top n : ℕ) (todo : List Row) → n ≤ 64 → top + 2 * n ≤ length a → InOrder (rows a top n) → Filling a a top n todo (todo ++ rows a top n)
 filling-start a top n todo h k r = record { small = h; same = refl; low = λ i b. refl; fits = k; rising = r; sum = same (todo ++ rows a top n) }
 
 -- nothing is put in yet
-pub filling-empty : (a : List ℕ) (top : ℕ) (todo : List Reaction) → top ≤ length a → Filling a a top 0 todo todo
+pub filling-empty : (a : List ℕ) (top : ℕ) (todo : List Row) → top ≤ length a → Filling a a top 0 todo todo
 unfolding rows
 filling-empty a top todo h =
     record { small = omega arith; same = refl; low = λ i b. refl; fits = omega arith; rising = tt; sum = record { to = λ r m. to r (mathlib.Core.List.append-nil todo) m; from = λ r m. append-left r todo [] m } }
   where
-    to : (r : Reaction) → todo ++ [] ≡ todo → Listed r (todo ++ []) → Listed r todo
+    to : (r : Row) → todo ++ [] ≡ todo → Listed r (todo ++ []) → Listed r todo
     to r e m = subst (Listed r) e m
 
 -- xs of what was to be put in is there now, ys is left
-module _ {a₀ a b : List ℕ} {top n r : ℕ} {goal : List Reaction} (xs ys todo : List Reaction) (f : Filling a₀ a top n todo goal) (e : Same todo (xs ++ ys)) (m : Made a b top 0 (collect (xs ++ rows a top n)) r) where
+module _ {a₀ a b : List ℕ} {top n r : ℕ} {goal : List Row} (xs ys todo : List Row) (f : Filling a₀ a top n todo goal) (e : Same todo (xs ++ ys)) (m : Made a b top 0 (collectRows (xs ++ rows a top n)) r) where
   rest : Same (ys ++ (xs ++ rows a top n)) goal
   rest =
       same-trans (same-sym (same-assoc ys xs (rows a top n)))
@@ -106,37 +109,37 @@ module _ {a₀ a b : List ℕ} {top n r : ℕ} {goal : List Reaction} (xs ys tod
         sum = same-trans (same-append ys ys (rows b top r) (xs ++ rows a top n) (same ys) (same-trans (same-as (collected (xs ++ rows a top n) m h)) (same-sorted (xs ++ rows a top n)))) rest;
       }
 
-  pub filling-over : (need : ℕ) → 64 < r → Made a₀ b top need (collect goal) r
-  unfolding collect
+  pub filling-over : (need : ℕ) → 64 < r → Made a₀ b top need (collectRows goal) r
+  unfolding collectRows
   filling-over need h = go (decLe r 65)
     where
-      go : Dec (r ≤ 65) → Made a₀ b top need (collect goal) r
+      go : Dec (r ≤ 65) → Made a₀ b top need (collectRows goal) r
       go (yes k) =
           let z : r ≡ 65 = omega arith in
           let long = collected-over (xs ++ rows a top n) m z in
           let more = sorted-length (xs ++ rows a top n) goal (λ u i. rest .to u (append-right u ys (xs ++ rows a top n) i)) in
-          made-over a₀ b top need r (collect goal) (m .same ∙ f .same) (λ i l. m .low i l ∙ f .low i l) z (cap-none (sorted goal) (omega arith))
+          made-over a₀ b top need r (collectRows goal) (m .same ∙ f .same) (λ i l. m .low i l ∙ f .low i l) z (cap-none (sortedRows goal) (omega arith))
       go (no k) = absurd (let w = m .cramped (omega arith) in omega arith)
 
-pub filling-end : {a₀ a : List ℕ} {top n : ℕ} {goal : List Reaction} (need : ℕ) (todo : List Reaction) → Filling a₀ a top n todo goal → todo ≡ [] → Made a₀ a top need (collect goal) n
-unfolding collect
+pub filling-end : {a₀ a : List ℕ} {top n : ℕ} {goal : List Row} (need : ℕ) (todo : List Row) → Filling a₀ a top n todo goal → todo ≡ [] → Made a₀ a top need (collectRows goal) n
+unfolding collectRows
 filling-end {a₀} {a} {top} {n} {goal} need todo f e =
-    let all : sorted goal ≡ rows a top n =
-    sym (sorted-equal (same-trans (same-as (sym (ap (λ (z : List Reaction). z ++ rows a top n) e))) (f .sum))) ∙ sorted-of-rising (rows a top n) (f .rising) in
+    let all : sortedRows goal ≡ rows a top n =
+    sym (sorted-equal (same-trans (same-as (sym (ap (λ (z : List Row). z ++ rows a top n) e))) (f .sum))) ∙ sorted-there (rows a top n) (f .rising) in
     let s = f .small in
     let l = rows-length a top n in
     record {
       same = f .same;
       low = f .low;
       fits = λ h. f .fits;
-      listed = λ h. ap cap all ∙ cap-some (rows a top n) (omega arith);
+      listed = λ h. ap capRows all ∙ cap-some (rows a top n) (omega arith);
       rising = λ h. f .rising;
       over = λ h. absurd (omega arith);
       cramped = λ h. absurd (omega arith);
     }
 
 -- what was made at top, moved down to base; or there was too much
-pub made-lowered : {a₀ a b : List ℕ} {base need top n : ℕ} {v : Option (List Reaction)} → Made a₀ a top need v n → base ≤ top → n ≤ 64 → MovedDown a b base top n → Made a₀ b base need v n
+pub made-lowered : {a₀ a b : List ℕ} {base need top n : ℕ} {v : CappedRows} → Made a₀ a top need v n → base ≤ top → n ≤ 64 → MovedDown a b base top n → Made a₀ b base need v n
 made-lowered {a₀} {a} {b} {base} {need} {top} {n} m h k l =
     let f = m .fits k in
     record {
@@ -144,13 +147,13 @@ made-lowered {a₀} {a} {b} {base} {need} {top} {n} m h k l =
       low = λ i j. l .low i j ∙ m .low i (omega arith);
       fits = λ j. omega arith;
       listed = λ j. m .listed j ∙ ap some (sym (l .moved));
-      rising = λ j. subst Rising (sym (l .moved)) (m .rising j);
+      rising = λ j. subst InOrder (sym (l .moved)) (m .rising j);
       over = m .over;
       cramped = m .cramped;
     }
 
-pub made-down : {a₀ b : List ℕ} {base need top n : ℕ} {v : Option (List Reaction)} → Made a₀ b top need v n → base ≤ top → 64 < n → Made a₀ b base need v n
+pub made-down : {a₀ b : List ℕ} {base need top n : ℕ} {v : CappedRows} → Made a₀ b top need v n → base ≤ top → 64 < n → Made a₀ b base need v n
 made-down m h k = record { same = m .same; low = λ i j. m .low i (omega arith); fits = λ j. absurd (omega arith); listed = λ j. absurd (omega arith); rising = λ j. absurd (omega arith); over = m .over; cramped = m .cramped }
 
-pub made-need : {a b : List ℕ} {base need n : ℕ} {v : Option (List Reaction)} (more : ℕ) → Made a b base need v n → need ≤ more → Made a b base more v n
+pub made-need : {a b : List ℕ} {base need n : ℕ} {v : CappedRows} (more : ℕ) → Made a b base need v n → need ≤ more → Made a b base more v n
 made-need more m h = record { same = m .same; low = m .low; fits = m .fits; listed = m .listed; rising = m .rising; over = m .over; cramped = λ k. let l = m .cramped k in omega arith }

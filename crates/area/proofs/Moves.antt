@@ -7,24 +7,54 @@ use native.Mathlib.Omega.{arith}
 use native.Mathlib.Decide.{decLt}
 use lib.ListN.{length, getD, set, length-set}
 use lib.Seq.{getD-set-same, getD-set-other}
-use Rattle.esterel.specs.Reactions.{Reaction}
-use Rattle.esterel.specs.Listing.{before}
-use Rattle.area.specs.inner.Area.{rowAt, rows, Stored, MovedDown}
+use Rattle.esterel.specs.inner.Rows.{Row}
+use Rattle.esterel.specs.inner.CappedRows.{beforeRow}
+use Rattle.area.specs.inner.Area.{rowAt, rows, Stored, MovedDown, Searched}
 use Rattle.area.proofs.Rows.{rows-move}
 
--- ---- the search from the end
-module _ (x : Reaction) (a : List ℕ) (base n j : ℕ) (h : 0 < j) where
-  pub place-step : ((i : ℕ) → j ≤ i → i < n → before x (rowAt a (base + 2 * i)) ≡ true) → before x (rowAt a (base + 2 * (j - 1))) ≡ true
-      → (i : ℕ) → j - 1 ≤ i → i < n → before x (rowAt a (base + 2 * i)) ≡ true
-  place-step f g i b d = go (decLt i j)
-    where
-      go : Dec (i < j) → before x (rowAt a (base + 2 * i)) ≡ true
-      go (yes y) = let e : i ≡ j - 1 = omega arith in ap (λ (z : ℕ). before x (rowAt a (base + 2 * z))) e ∙ g
-      go (no y) = f i (omega arith) d
+-- ---- the search by halves: the row at high is above x, and the one before low is not
+pub record Searching (a : List ℕ) (base n : ℕ) (x : Row) (low high : ℕ) : Type 0 where
+  pub order : low ≤ high
+  pub within : high ≤ n
+  pub above : beforeRow x (rowAt a (base + 2 * high)) ≡ true
+  pub last : (j : ℕ) → low ≡ j + 1 → beforeRow x (rowAt a (base + 2 * j)) ≡ false
+
+module _ (a : List ℕ) (base n : ℕ) (x : Row) (low high half : ℕ) (s : Searching a base n x low high) where
+  pub searching-low : half < high → beforeRow x (rowAt a (base + 2 * half)) ≡ false → Searching a base n x (half + 1) high
+  searching-low h e = record {
+    order = omega arith;
+    within = s .within;
+    above = s .above;
+    last = λ j k. let z : half ≡ j = omega arith in subst (λ (i : ℕ). beforeRow x (rowAt a (base + 2 * i)) ≡ false) z e;
+  }
+
+  pub searching-high : low ≤ half → half < high → beforeRow x (rowAt a (base + 2 * half)) ≡ true → Searching a base n x low half
+  searching-high k h e = let i = s .within in record { order = k; within = omega arith; above = e; last = s .last }
+
+pub searching-end : (a : List ℕ) (base n : ℕ) (x : Row) (low high : ℕ) → Searching a base n x low high → high ≤ low → Searched a base (n + 1) x high
+searching-end a base n x low high s h =
+    let o = s .order in
+    let i = s .within in
+    record { within = omega arith; next = λ k. s .above; last = λ j e. s .last j (omega arith) }
 
 -- what holds of the last before j
 pub last-is : (j : ℕ) → 0 < j → (P : ℕ → Type 0) → P (j - 1) → (k : ℕ) → j ≡ k + 1 → P k
 last-is j h P p k e = let z : j - 1 ≡ k = omega arith in subst P z p
+
+-- ---- the place of x among n
+module _ (a : List ℕ) (base n : ℕ) (x : Row) where
+  pub placed-none : n ≡ 0 → Searched a base n x 0
+  placed-none e = record { within = omega arith; next = λ h. absurd (omega arith); last = λ j k. absurd (omega arith) }
+
+  pub placed-last : 0 < n → beforeRow x (rowAt a (base + 2 * (n - 1))) ≡ false → Searched a base n x n
+  placed-last h e = record {
+    within = omega arith;
+    next = λ k. absurd (omega arith);
+    last = last-is n h (λ i. beforeRow x (rowAt a (base + 2 * i)) ≡ false) e;
+  }
+
+  pub placed-search : (r : ℕ) → 0 < n → Searched a base (n - 1 + 1) x r → Searched a base n x r
+  placed-search r h s = let e : n - 1 + 1 ≡ n = omega arith in subst (λ (i : ℕ). Searched a base i x r) e s
 
 pub not-not : (b : Bool) → b ≡ not (not b)
 not-not true = refl
@@ -91,7 +121,7 @@ lowering-end a₀ a t f n j o h k =
     let e : t + (f - t) ≡ f = omega arith in
     record { same = o .same; low = o .low; moved = rows-move (f - t) a₀ a t n (λ i b d. o .done i b (omega arith)) ∙ ap (λ (z : ℕ). rows a₀ z n) e }
 
--- ---- one reaction stored
+-- ---- one row stored
 pub stored : (a : List ℕ) (q w l : ℕ) → q + 2 ≤ length a → Stored a (set (set a q w) (q + 1) l) q w l
 stored a q w l fits =
     let e = length-set a q w in

@@ -1,28 +1,31 @@
--- One more reaction put among rising ones: it is there, or there are 64 already, or a place was opened for it.
+-- One more row put among rows in order: it is there, or there are 64 already, or a place was opened for it.
 use mathlib.Core.Path.{_≡_, refl, sym, ap, _∙_, subst}
 use mathlib.Core.Bool.{Bool, true, false, not}
 use mathlib.Core.List.{List, _∷_, _++_}
-use mathlib.Core.Option.{Option, some}
+use mathlib.Core.Option.{some}
 use Prim.Native.Nat.{ℕ, zero, suc, _+_, _*_, _-_, _≤_, _<_}
 use native.Mathlib.Omega.{arith}
 use lib.ListN.{length, getD, length-append}
 use Rattle.sets.proofs.Booleans.{clash}
-use Rattle.esterel.specs.Reactions.{Reaction}
-use Rattle.esterel.specs.Listing.{Listed, Rising, before, insert, sorted}
-use Rattle.esterel.proofs.Order.{sorted-of-rising, before-is, neither, insert-rising}
-use Rattle.area.specs.inner.Area.{packed, rowAt, rows, cap, collect, Low, Put, Searched, MovedUp, Stored}
+use Rattle.esterel.specs.Listing.{Listed}
+use Rattle.esterel.specs.inner.Rows.{Row}
+use Rattle.esterel.specs.inner.CappedRows.{CappedRows, beforeRow, insertRow, sortedRows, capRows, collectRows}
+use Rattle.area.specs.inner.Layout.{packed}
+use Rattle.area.specs.inner.Area.{rowAt, rows, InOrder, Low, Put, Searched, MovedUp, Stored}
+use Rattle.esterel.proofs.RowOrder.{row-same}
+use Rattle.area.proofs.Order.{insert-in-order, sorted-there}
 use Rattle.area.proofs.Members.{same-again, collect-same, cap-some, cap-none}
 use Rattle.area.proofs.Rows.{rows-move, rows-agree, rows-split, rows-length, rows-mem, rows-cons, rows-whole, insert-rows}
 
 -- p is the place that the search found for (w, l); t says whether it is there
-module _ (a : List ℕ) (base n w l p : ℕ) (small : n ≤ 64) (fits : base + 2 * n + 2 ≤ length a) (rise : Rising (rows a base n)) (found : Searched a base n (packed w l) p)
-    (t : Bool) (none-there : p ≡ 0 → t ≡ false) (last : (j : ℕ) → p ≡ j + 1 → before (rowAt a (base + 2 * j)) (packed w l) ≡ not t) where
-  abbrev wanted : Option (List Reaction)
-  wanted = collect (packed w l ∷ rows a base n)
+module _ (a : List ℕ) (base n w l p : ℕ) (small : n ≤ 64) (fits : base + 2 * n + 2 ≤ length a) (rise : InOrder (rows a base n)) (found : Searched a base n (packed w l) p)
+    (t : Bool) (none-there : p ≡ 0 → t ≡ false) (last : (j : ℕ) → p ≡ j + 1 → beforeRow (rowAt a (base + 2 * j)) (packed w l) ≡ not t) where
+  abbrev wanted : CappedRows
+  wanted = collectRows (packed w l ∷ rows a base n)
 
-  as-inserted : wanted ≡ cap (insert (packed w l) (rows a base n))
-  unfolding collect sorted
-  as-inserted = ap (λ (z : List Reaction). cap (insert (packed w l) z)) (sorted-of-rising (rows a base n) rise)
+  as-inserted : wanted ≡ capRows (insertRow (packed w l) (rows a base n))
+  unfolding collectRows sortedRows
+  as-inserted = ap (λ (z : List Row). capRows (insertRow (packed w l) z)) (sorted-there (rows a base n) rise)
 
   unchanged : wanted ≡ some (rows a base n) → Put a a base n wanted n
   unchanged e = record {
@@ -32,25 +35,25 @@ module _ (a : List ℕ) (base n w l p : ℕ) (small : n ≤ 64) (fits : base + 2
   }
 
   pub put-there : t ≡ true → Put a a base n wanted n
-  unfolding collect
+  unfolding collectRows
   put-there e =
       let z : 0 < p = positive p refl in
       let j : p ≡ p - 1 + 1 = omega arith in
       let k = found .within in
-      let r : Reaction = rowAt a (base + 2 * (p - 1)) in
-      let s : packed w l ≡ r = neither (packed w l) r (λ b. clash (before-is (packed w l) r b) (found .last (p - 1) j)) (λ b. clash (before-is r (packed w l) b) (last (p - 1) j ∙ ap not e)) in
+      let r : Row = rowAt a (base + 2 * (p - 1)) in
+      let s : packed w l ≡ r = row-same (packed w l) r (found .last (p - 1) j) (last (p - 1) j ∙ ap not e) in
       let h = rows-length a base n in
-      let m : Listed (packed w l) (rows a base n) = subst (λ (x : Reaction). Listed x (rows a base n)) (sym s) (rows-mem a base n (p - 1) (omega arith)) in
-      unchanged (collect-same (same-again (packed w l) (rows a base n) m) ∙ ap cap (sorted-of-rising (rows a base n) rise) ∙ cap-some (rows a base n) (omega arith))
+      let m : Listed (packed w l) (rows a base n) = subst (λ (x : Row). Listed x (rows a base n)) (sym s) (rows-mem a base n (p - 1) (omega arith)) in
+      unchanged (collect-same (same-again (packed w l) (rows a base n) m) ∙ ap capRows (sorted-there (rows a base n) rise) ∙ cap-some (rows a base n) (omega arith))
     where
       positive : (q : ℕ) → p ≡ q → 0 < q
       positive zero f = clash e (none-there f)
       positive (suc q) f = omega arith
 
-  opened : t ≡ false → insert (packed w l) (rows a base n) ≡ rows a base p ++ (packed w l ∷ rows a (base + 2 * p) (n - p))
-  opened e = insert-rows (packed w l) a base n p rise (found .within) (λ h. found .above p (omega arith) h) (λ j h. last j h ∙ ap not e)
+  opened : t ≡ false → insertRow (packed w l) (rows a base n) ≡ rows a base p ++ (packed w l ∷ rows a (base + 2 * p) (n - p))
+  opened e = insert-rows (packed w l) a base n p rise (found .within) (found .next) (λ j h. last j h ∙ ap not e)
 
-  long : t ≡ false → length (insert (packed w l) (rows a base n)) ≡ n + 1
+  long : t ≡ false → length (insertRow (packed w l) (rows a base n)) ≡ n + 1
   long e =
       let h = rows-length a base p in
       let k = rows-length a (base + 2 * p) (n - p) in
@@ -61,7 +64,7 @@ module _ (a : List ℕ) (base n w l p : ℕ) (small : n ≤ 64) (fits : base + 2
   put-full e h =
       let k = long e in
       record {
-        made = record { same = refl; low = λ i b. refl; fits = λ b. absurd (omega arith); listed = λ b. absurd (omega arith); rising = λ b. absurd (omega arith); over = λ b. as-inserted ∙ cap-none (insert (packed w l) (rows a base n)) (omega arith); cramped = λ b. absurd (omega arith) };
+        made = record { same = refl; low = λ i b. refl; fits = λ b. absurd (omega arith); listed = λ b. absurd (omega arith); rising = λ b. absurd (omega arith); over = λ b. as-inserted ∙ cap-none (insertRow (packed w l) (rows a base n)) (omega arith); cramped = λ b. absurd (omega arith) };
         high = λ i b. refl;
         count = omega arith;
       }
@@ -70,7 +73,7 @@ module _ (a : List ℕ) (base n w l p : ℕ) (small : n ≤ 64) (fits : base + 2
     low : Low (base + 2 * p) a c
     low i d = s .low i d ∙ o .low i d
 
-    all : rows c base (n + 1) ≡ insert (packed w l) (rows a base n)
+    all : rows c base (n + 1) ≡ insertRow (packed w l) (rows a base n)
     all =
         let m = found .within in
         let x : rowAt c (base + 2 * p) ≡ packed w l = ap (λ (y : ℕ). packed y (getD c (base + 2 * p + 1) 0)) (s .first) ∙ ap (packed w) (s .second) in
@@ -86,10 +89,10 @@ module _ (a : List ℕ) (base n w l p : ℕ) (small : n ≤ 64) (fits : base + 2
         ∙ ap (λ (y : ℕ). rowAt c y ∷ rows c (base + 2 * p + 2 * (0 + 1)) (n - p + 1 - (0 + 1))) z
         ∙ ap (λ (y : ℕ). rowAt c (base + 2 * p) ∷ rows c y (n - p + 1 - (0 + 1))) i
         ∙ ap (λ (y : ℕ). rowAt c (base + 2 * p) ∷ rows c (base + 2 * p + 2) y) u in
-        ap (rows c base) q ∙ rows-split c base p (n - p + 1) ∙ ap (λ (y : List Reaction). rows c base p ++ y) head
-        ∙ ap (λ (y : List Reaction). y ++ (rowAt c (base + 2 * p) ∷ rows c (base + 2 * p + 2) (n - p))) front
-        ∙ ap (λ (y : Reaction). rows a base p ++ (y ∷ rows c (base + 2 * p + 2) (n - p))) x
-        ∙ ap (λ (y : List Reaction). rows a base p ++ (packed w l ∷ y)) back
+        ap (rows c base) q ∙ rows-split c base p (n - p + 1) ∙ ap (λ (y : List Row). rows c base p ++ y) head
+        ∙ ap (λ (y : List Row). y ++ (rowAt c (base + 2 * p) ∷ rows c (base + 2 * p + 2) (n - p))) front
+        ∙ ap (λ (y : Row). rows a base p ++ (y ∷ rows c (base + 2 * p + 2) (n - p))) x
+        ∙ ap (λ (y : List Row). rows a base p ++ (packed w l ∷ y)) back
         ∙ sym (opened e)
 
     pub put-new : Put a c base n wanted (n + 1)
@@ -101,8 +104,8 @@ module _ (a : List ℕ) (base n w l p : ℕ) (small : n ≤ 64) (fits : base + 2
             same = s .same ∙ o .same;
             low = λ i d. low i (omega arith);
             fits = λ d. omega arith;
-            listed = λ d. as-inserted ∙ cap-some (insert (packed w l) (rows a base n)) (omega arith) ∙ ap some (sym all);
-            rising = λ d. subst Rising (sym all) (insert-rising (packed w l) (rows a base n) rise);
+            listed = λ d. as-inserted ∙ cap-some (insertRow (packed w l) (rows a base n)) (omega arith) ∙ ap some (sym all);
+            rising = λ d. subst InOrder (sym all) (insert-in-order (packed w l) (rows a base n) rise);
             over = λ d. absurd (omega arith);
             cramped = λ d. absurd (omega arith);
           };

@@ -1,40 +1,80 @@
--- Reactions in an area: the order by their words, reading them, and where one more belongs among rising ones.
+-- Rows in an area: the order by their words, reading them, and where one more belongs among rows in order.
 use mathlib.Core.Path.{_≡_, refl, sym, ap, _∙_, subst}
-use mathlib.Core.Bool.{Bool, true, false, _&&_, _||_}
+use mathlib.Core.Bool.{Bool, true, false}
 use mathlib.Core.Logic.{inl, inr}
 use mathlib.Core.List.{List, [], _∷_, _++_}
-use Prim.Native.Nat.{ℕ, zero, suc, _+_, _*_, _-_, _/_, _%_, _≤_, _<_}
+use Prim.Native.Nat.{ℕ, zero, suc, _+_, _*_, _-_, _/_, _%_, _^_, _≤_, _<_}
 use native.Mathlib.Omega.{arith}
 use native.Mathlib.Decide.{decLt}
-use lib.Dec.{ltb, eqb}
+use lib.Dec.{ltb}
 use lib.ListN.{length, getD}
-use borrow.Author.Tests.{lt-ltb, le-ltb, eq-eqb, ne-eqb}
-use Rattle.esterel.specs.Reactions.{Reaction}
-use Rattle.esterel.specs.Listing.{Listed, Rising, reaction, before, insert}
-use Rattle.esterel.proofs.Order.{before-yes, before-is, before-trans, before-self}
-use Rattle.area.specs.inner.Area.{packed, rowAt, rows}
+use lib.Bits.{bitOr, or-shr, or-mod}
+use borrow.Author.Tests.{lt-ltb, le-ltb, eq-eqb}
+use Rattle.sets.specs.Set.{only, _union_, _without_}
+use Rattle.sets.proofs.Members.{only-fits}
+use Rattle.sets.proofs.Words.{only-below, minus-below}
+use Rattle.esterel.specs.Listing.{Listed, reaction}
+use Rattle.esterel.specs.inner.Conditions.{condition, both, forget}
+use Rattle.esterel.specs.inner.Rows.{Row, rowWhen}
+use Rattle.esterel.specs.inner.CappedRows.{lessOr, beforeRow, insertRow}
+use Rattle.area.specs.inner.Layout.{conditionIn, packed}
+use Rattle.area.specs.inner.Area.{rowAt, rows, InOrder}
+use Rattle.area.proofs.Order.{before-trans, row-asym}
 
 -- ---- the order, by the words
-pub packed-lt : (w l v m : ℕ) → w < v → before (packed w l) (packed v m) ≡ true
-unfolding before packed
-packed-lt w l v m h = go (decLt (w / 256) (v / 256))
-  where
-    go : Dec (w / 256 < v / 256) → (ltb (w / 256) (v / 256) || (eqb (w / 256) (v / 256) && (ltb (w % 256) (v % 256) || (eqb (w % 256) (v % 256) && ltb l m)))) ≡ true
-    go (yes k) = rw (lt-ltb (w / 256) (v / 256) k)
-    go (no k) = rw (le-ltb (w / 256) (v / 256) (omega arith), eq-eqb (w / 256) (v / 256) (omega arith), lt-ltb (w % 256) (v % 256) (omega arith))
+less-first : (a b : ℕ) (c : Bool) → a < b → lessOr a b c ≡ true
+unfolding lessOr
+less-first a b c h = rw (lt-ltb a b h)
 
-pub packed-gt : (w l v m : ℕ) → v < w → before (packed w l) (packed v m) ≡ false
-unfolding before packed
-packed-gt w l v m h = go (decLt (v / 256) (w / 256))
-  where
-    go : Dec (v / 256 < w / 256) → (ltb (w / 256) (v / 256) || (eqb (w / 256) (v / 256) && (ltb (w % 256) (v % 256) || (eqb (w % 256) (v % 256) && ltb l m)))) ≡ false
-    go (yes k) = rw (le-ltb (w / 256) (v / 256) (omega arith), ne-eqb (w / 256) (v / 256) (λ e. omega arith))
-    go (no k) = rw (le-ltb (w / 256) (v / 256) (omega arith), eq-eqb (w / 256) (v / 256) (omega arith), le-ltb (w % 256) (v % 256) (omega arith), ne-eqb (w % 256) (v % 256) (λ e. omega arith))
+less-next : (a b : ℕ) (c : Bool) → a ≡ b → lessOr a b c ≡ c
+unfolding lessOr
+less-next a b c e = rw (le-ltb a b (omega arith), eq-eqb a b e)
 
-pub packed-eq : (w l v m : ℕ) → v ≤ w → w ≤ v → ltb l m ≡ before (packed w l) (packed v m)
-unfolding before packed
+abbrev offs : ℕ → ℕ → Bool → Bool
+offs w v c = lessOr (w % 2 ^ 12) (v % 2 ^ 12) c
+
+abbrev ons : ℕ → ℕ → Bool → Bool
+ons w v c = lessOr (w / 2 ^ 12 % 2 ^ 12) (v / 2 ^ 12 % 2 ^ 12) (offs w v c)
+
+abbrev codes : ℕ → ℕ → Bool → Bool
+codes w v c = lessOr (w / 2 ^ 24 % 256) (v / 2 ^ 24 % 256) (ons w v c)
+
+offs-less : (w v : ℕ) (c : Bool) → w < v → w / 2 ^ 12 ≡ v / 2 ^ 12 → offs w v c ≡ true
+offs-less w v c h e = less-first (w % 2 ^ 12) (v % 2 ^ 12) c (omega arith)
+
+ons-less : (w v : ℕ) (c : Bool) → w < v → w / 2 ^ 24 ≡ v / 2 ^ 24 → ons w v c ≡ true
+ons-less w v c h e = go (decLt (w / 2 ^ 12 % 2 ^ 12) (v / 2 ^ 12 % 2 ^ 12))
+  where
+    go : Dec (w / 2 ^ 12 % 2 ^ 12 < v / 2 ^ 12 % 2 ^ 12) → ons w v c ≡ true
+    go (yes k) = less-first (w / 2 ^ 12 % 2 ^ 12) (v / 2 ^ 12 % 2 ^ 12) (offs w v c) k
+    go (no k) = less-next (w / 2 ^ 12 % 2 ^ 12) (v / 2 ^ 12 % 2 ^ 12) (offs w v c) (omega arith) ∙ offs-less w v c h (omega arith)
+
+codes-less : (w v : ℕ) (c : Bool) → w < v → w / 2 ^ 32 ≡ v / 2 ^ 32 → codes w v c ≡ true
+codes-less w v c h e = go (decLt (w / 2 ^ 24 % 256) (v / 2 ^ 24 % 256))
+  where
+    go : Dec (w / 2 ^ 24 % 256 < v / 2 ^ 24 % 256) → codes w v c ≡ true
+    go (yes k) = less-first (w / 2 ^ 24 % 256) (v / 2 ^ 24 % 256) (ons w v c) k
+    go (no k) = less-next (w / 2 ^ 24 % 256) (v / 2 ^ 24 % 256) (ons w v c) (omega arith) ∙ ons-less w v c h (omega arith)
+
+pub packed-lt : (w l v m : ℕ) → w < v → beforeRow (packed w l) (packed v m) ≡ true
+unfolding beforeRow packed
+packed-lt w l v m h = go (decLt (w / 2 ^ 32) (v / 2 ^ 32))
+  where
+    go : Dec (w / 2 ^ 32 < v / 2 ^ 32) → lessOr (w / 2 ^ 32) (v / 2 ^ 32) (codes w v (ltb l m)) ≡ true
+    go (yes k) = less-first (w / 2 ^ 32) (v / 2 ^ 32) (codes w v (ltb l m)) k
+    go (no k) = less-next (w / 2 ^ 32) (v / 2 ^ 32) (codes w v (ltb l m)) (omega arith) ∙ codes-less w v (ltb l m) h (omega arith)
+
+pub packed-gt : (w l v m : ℕ) → v < w → beforeRow (packed w l) (packed v m) ≡ false
+packed-gt w l v m h = row-asym (packed v m) (packed w l) (packed-lt v m w l h)
+
+pub packed-eq : (w l v m : ℕ) → v ≤ w → w ≤ v → ltb l m ≡ beforeRow (packed w l) (packed v m)
+unfolding beforeRow packed
 packed-eq w l v m h k =
-    sym (rw (le-ltb (w / 256) (v / 256) (omega arith), eq-eqb (w / 256) (v / 256) (omega arith), le-ltb (w % 256) (v % 256) (omega arith), eq-eqb (w % 256) (v % 256) (omega arith)))
+    let e : w ≡ v = omega arith in
+    sym (less-next (w / 2 ^ 32) (v / 2 ^ 32) (codes w v (ltb l m)) (ap (λ (z : ℕ). z / 2 ^ 32) e)
+    ∙ less-next (w / 2 ^ 24 % 256) (v / 2 ^ 24 % 256) (ons w v (ltb l m)) (ap (λ (z : ℕ). z / 2 ^ 24 % 256) e)
+    ∙ less-next (w / 2 ^ 12 % 2 ^ 12) (v / 2 ^ 12 % 2 ^ 12) (offs w v (ltb l m)) (ap (λ (z : ℕ). z / 2 ^ 12 % 2 ^ 12) e)
+    ∙ less-next (w % 2 ^ 12) (v % 2 ^ 12) (ltb l m) (ap (λ (z : ℕ). z % 2 ^ 12) e))
 
 -- ---- reading
 pub row-agree : (a b : List ℕ) (q : ℕ) → getD b q 0 ≡ getD a q 0 → getD b (q + 1) 0 ≡ getD a (q + 1) 0 → rowAt b q ≡ rowAt a q
@@ -72,7 +112,7 @@ pub rows-one : (a : List ℕ) (q n : ℕ) → n ≡ 1 → rows a q n ≡ rowAt a
 unfolding rows
 rows-one a q n e = ap (rows a q) e
 
--- the reactions from the j-th on
+-- the rows from the j-th on
 pub rows-cons : (a : List ℕ) (q n j : ℕ) → j < n → rows a (q + 2 * j) (n - j) ≡ rowAt a (q + 2 * j) ∷ rows a (q + 2 * (j + 1)) (n - (j + 1))
 rows-cons a q n j h =
     let e : q + 2 * j + 2 ≡ q + 2 * (j + 1) = omega arith in
@@ -98,7 +138,7 @@ rows-split a q (suc m) n =
     let e : suc m + n ≡ suc (m + n) = omega arith in
     let g : q + 2 + 2 * m ≡ q + 2 * suc m = omega arith in
     let t : rows a (q + 2) (m + n) ≡ rows a (q + 2) m ++ rows a (q + 2 * suc m) n = rows-split a (q + 2) m n ∙ ap (λ (z : ℕ). rows a (q + 2) m ++ rows a z n) g in
-    ap (rows a q) e ∙ ap (λ (z : List Reaction). rowAt a q ∷ z) t
+    ap (rows a q) e ∙ ap (λ (z : List Row). rowAt a q ∷ z) t
 
 pub rows-length : (a : List ℕ) (q n : ℕ) → length (rows a q n) ≡ n
 unfolding rows
@@ -114,56 +154,107 @@ rows-mem a q (suc n) (suc j) h =
     inr (subst (λ (z : ℕ). Listed (rowAt a z) (rows a (q + 2) n)) e (rows-mem a (q + 2) n j (omega arith)))
 
 -- ---- the place of one more
-asym : (x y : Reaction) → before x y ≡ true → before y x ≡ false
-asym x y h = go (before y x) refl
-  where
-    go : (b : Bool) → before y x ≡ b → b ≡ false
-    go true e = absurd (before-self x (before-trans x y x (before-yes x y h) (before-yes y x e)))
-    go false e = refl
-
-insert-here : (x y : Reaction) (ys : List Reaction) → before x y ≡ true → insert x (y ∷ ys) ≡ x ∷ y ∷ ys
-unfolding insert
+insert-here : (x y : Row) (ys : List Row) → beforeRow x y ≡ true → insertRow x (y ∷ ys) ≡ x ∷ y ∷ ys
+unfolding insertRow
 insert-here x y ys e = rw e
 
-insert-pass : (x y : Reaction) (ys : List Reaction) → before y x ≡ true → insert x (y ∷ ys) ≡ y ∷ insert x ys
-unfolding insert
-insert-pass x y ys e = rw (asym y x e, e)
+insert-pass : (x y : Row) (ys : List Row) → beforeRow y x ≡ true → insertRow x (y ∷ ys) ≡ y ∷ insertRow x ys
+unfolding insertRow
+insert-pass x y ys e = rw (row-asym y x e, e)
 
--- p of the n reactions stand before x, and the others behind it
-pub insert-rows : (x : Reaction) (a : List ℕ) (q n p : ℕ) → Rising (rows a q n) → p ≤ n → (p < n → before x (rowAt a (q + 2 * p)) ≡ true)
-    → ((j : ℕ) → p ≡ j + 1 → before (rowAt a (q + 2 * j)) x ≡ true) → insert x (rows a q n) ≡ rows a q p ++ (x ∷ rows a (q + 2 * p) (n - p))
-unfolding rows insert
+-- p of the n rows stand before x, and the others behind it
+pub insert-rows : (x : Row) (a : List ℕ) (q n p : ℕ) → InOrder (rows a q n) → p ≤ n → (p < n → beforeRow x (rowAt a (q + 2 * p)) ≡ true)
+    → ((j : ℕ) → p ≡ j + 1 → beforeRow (rowAt a (q + 2 * j)) x ≡ true) → insertRow x (rows a q n) ≡ rows a q p ++ (x ∷ rows a (q + 2 * p) (n - p))
+unfolding rows insertRow
 insert-rows x a q zero zero r h f g = let m : zero ≡ zero - zero = omega arith in ap (λ (z : ℕ). x ∷ rows a (q + 2 * zero) z) m
 insert-rows x a q (suc n) zero r h f g =
     let e : q + 2 * zero ≡ q = omega arith in
-    let u : before x (rowAt a q) ≡ true = ap (λ (z : ℕ). before x (rowAt a z)) (sym e) ∙ f (omega arith) in
+    let u : beforeRow x (rowAt a q) ≡ true = ap (λ (z : ℕ). beforeRow x (rowAt a z)) (sym e) ∙ f (omega arith) in
     let m : suc n ≡ suc n - zero = omega arith in
     insert-here x (rowAt a q) (rows a (q + 2) n) u ∙ ap (λ (z : ℕ). x ∷ rows a z (suc n)) (sym e) ∙ ap (λ (z : ℕ). x ∷ rows a (q + 2 * zero) z) m
 insert-rows x a q zero (suc p) r h f g = absurd (omega arith)
 insert-rows x a q (suc n) (suc p) r h f g =
     let e : q + 2 + 2 * p ≡ q + 2 * suc p = omega arith in
     let m : suc n - suc p ≡ n - p = omega arith in
-    let last : before (rowAt a (q + 2 * p)) x ≡ true = g p (omega arith) in
-    let low : before (rowAt a q) x ≡ true = first p last (omega arith) in
-    let t : insert x (rows a (q + 2) n) ≡ rows a (q + 2) p ++ (x ∷ rows a (q + 2 + 2 * p) (n - p)) =
-    insert-rows x a (q + 2) n p (r .1) (omega arith) (λ k. ap (λ (z : ℕ). before x (rowAt a z)) e ∙ f (omega arith)) (λ j k. next j (g (j + 1) (omega arith))) in
+    let last : beforeRow (rowAt a (q + 2 * p)) x ≡ true = g p (omega arith) in
+    let low : beforeRow (rowAt a q) x ≡ true = first p last (omega arith) in
+    let t : insertRow x (rows a (q + 2) n) ≡ rows a (q + 2) p ++ (x ∷ rows a (q + 2 + 2 * p) (n - p)) =
+    insert-rows x a (q + 2) n p (r .1) (omega arith) (λ k. ap (λ (z : ℕ). beforeRow x (rowAt a z)) e ∙ f (omega arith)) (λ j k. next j (g (j + 1) (omega arith))) in
     insert-pass x (rowAt a q) (rows a (q + 2) n) low
-    ∙ ap (λ (z : List Reaction). rowAt a q ∷ z) (t ∙ ap (λ (z : ℕ). rows a (q + 2) p ++ (x ∷ rows a z (n - p))) e ∙ ap (λ (z : ℕ). rows a (q + 2) p ++ (x ∷ rows a (q + 2 * suc p) z)) (sym m))
+    ∙ ap (λ (z : List Row). rowAt a q ∷ z) (t ∙ ap (λ (z : ℕ). rows a (q + 2) p ++ (x ∷ rows a z (n - p))) e ∙ ap (λ (z : ℕ). rows a (q + 2) p ++ (x ∷ rows a (q + 2 * suc p) z)) (sym m))
   where
-    first : (p : ℕ) → before (rowAt a (q + 2 * p)) x ≡ true → p ≤ n → before (rowAt a q) x ≡ true
-    first zero l k = let e : q + 2 * zero ≡ q = omega arith in ap (λ (z : ℕ). before (rowAt a z) x) (sym e) ∙ l
+    first : (p : ℕ) → beforeRow (rowAt a (q + 2 * p)) x ≡ true → p ≤ n → beforeRow (rowAt a q) x ≡ true
+    first zero l k = let e : q + 2 * zero ≡ q = omega arith in ap (λ (z : ℕ). beforeRow (rowAt a z) x) (sym e) ∙ l
     first (suc p) l k =
         let e : q + 2 + 2 * p ≡ q + 2 * suc p = omega arith in
         let there : Listed (rowAt a (q + 2 * suc p)) (rows a (q + 2) n) = subst (λ (z : ℕ). Listed (rowAt a z) (rows a (q + 2) n)) e (rows-mem a (q + 2) n p (omega arith)) in
-        before-is (rowAt a q) x (before-trans (rowAt a q) (rowAt a (q + 2 * suc p)) x (r .0 (rowAt a (q + 2 * suc p)) there) (before-yes (rowAt a (q + 2 * suc p)) x l))
+        before-trans (rowAt a q) (rowAt a (q + 2 * suc p)) x (r .0 (rowAt a (q + 2 * suc p)) there) l
 
-    next : (j : ℕ) → before (rowAt a (q + 2 * (j + 1))) x ≡ true → before (rowAt a (q + 2 + 2 * j)) x ≡ true
-    next j l = let e : q + 2 + 2 * j ≡ q + 2 * (j + 1) = omega arith in ap (λ (z : ℕ). before (rowAt a z) x) e ∙ l
+    next : (j : ℕ) → beforeRow (rowAt a (q + 2 * (j + 1))) x ≡ true → beforeRow (rowAt a (q + 2 + 2 * j)) x ≡ true
+    next j l = let e : q + 2 + 2 * j ≡ q + 2 * (j + 1) = omega arith in ap (λ (z : ℕ). beforeRow (rowAt a z) x) e ∙ l
 
--- ---- one reaction as words
-pub packed-word : (w o k l : ℕ) → w ≡ o * 256 + k → k < 256 → packed w l ≡ reaction o k l
+-- ---- one row as words
+packed-word : (x o k d l : ℕ) → x ≡ (o * 256 + k) * 2 ^ 24 + d → k < 256 → d < 2 ^ 24 → packed x l ≡ rowWhen (conditionIn d) (reaction o k l)
 unfolding packed
-packed-word w o k l h b =
-    let e : w / 256 ≡ o = omega arith in
-    let g : w % 256 ≡ k = omega arith in
-    cc
+packed-word x o k d l h b f =
+    let e : x / 2 ^ 32 ≡ o = omega arith in
+    let g : x / 2 ^ 24 % 256 ≡ k = omega arith in
+    let i : x / 2 ^ 12 % 2 ^ 12 ≡ d / 2 ^ 12 % 2 ^ 12 = omega arith in
+    let j : x % 2 ^ 12 ≡ d % 2 ^ 12 = omega arith in
+    λ n. rowWhen (condition (i n) (j n)) (reaction (e n) (g n) l)
+
+pub packed-as : (x o k d l : ℕ) (w : Row) → x ≡ (o * 256 + k) * 2 ^ 24 + d → k < 256 → d < 2 ^ 24
+    → conditionIn d ≡ w .when → o ≡ w .reacts .emitted → k ≡ w .reacts .code → l ≡ w .reacts .reached → packed x l ≡ w
+packed-as x o k d l w h b f c e g i = packed-word x o k d l h b f ∙ (λ n. record { when = c n; reacts = record { emitted = e n; code = g n; reached = i n } })
+
+-- ---- conditions in words
+pub condition-low : (d w : ℕ) → d ≡ w % 2 ^ 24 → conditionIn d ≡ conditionIn w
+condition-low d w h =
+    let i : d / 2 ^ 12 % 2 ^ 12 ≡ w / 2 ^ 12 % 2 ^ 12 = omega arith in
+    let j : d % 2 ^ 12 ≡ w % 2 ^ 12 = omega arith in
+    λ n. condition (i n) (j n)
+
+pub condition-both : (d w v : ℕ) → d ≡ bitOr w v % 2 ^ 24 → conditionIn d ≡ both (conditionIn w) (conditionIn v)
+unfolding both _union_
+condition-both d w v h =
+    let i : bitOr w v / 2 ^ 12 % 2 ^ 12 ≡ bitOr (w / 2 ^ 12 % 2 ^ 12) (v / 2 ^ 12 % 2 ^ 12) =
+    ap (λ (z : ℕ). z % 2 ^ 12) (or-shr w v 12) ∙ or-mod (w / 2 ^ 12) (v / 2 ^ 12) 12 in
+    condition-low d (bitOr w v) h ∙ (λ n. condition (i n) (or-mod w v 12 n))
+
+pub condition-parts : (d on off : ℕ) → d ≡ on * 2 ^ 12 + off → on < 2 ^ 12 → off < 2 ^ 12 → conditionIn d ≡ condition on off
+condition-parts d on off h a b =
+    let i : d / 2 ^ 12 % 2 ^ 12 ≡ on = omega arith in
+    let j : d % 2 ^ 12 ≡ off = omega arith in
+    λ n. condition (i n) (j n)
+
+-- ---- slots in words
+module _ (s r : ℕ) (h : s < 12) (e : r ≡ only s % 2 ^ 64) where
+  pub slot-word : r ≡ only s
+  slot-word = e ∙ only-fits 64 s (omega arith)
+
+  pub slot-below : r < 2 ^ 12
+  slot-below = let b = only-below 12 s h in let f = slot-word in omega arith
+
+  pub slot-on : conditionIn (r * 4096) ≡ condition (only s) 0
+  slot-on = condition-parts (r * 4096) r 0 (omega arith) slot-below (omega arith) ∙ ap (λ (z : ℕ). condition z 0) slot-word
+
+  pub slot-off : conditionIn r ≡ condition 0 (only s)
+  slot-off = condition-parts r 0 r (omega arith) (omega arith) slot-below ∙ ap (condition 0) slot-word
+
+-- the two sets of a condition without a slot
+module _ (w s on off a b : ℕ) (h : on ≡ w / 2 ^ 12 % 2 ^ 12) (k : a ≡ on without s) (i : off ≡ w % 2 ^ 12) (j : b ≡ off without s) where
+  forget-on : a < 2 ^ 12
+  forget-on = let m = minus-below 12 on (only s) (omega arith) in omega arith
+
+  forget-off : b < 2 ^ 12
+  forget-off = let m = minus-below 12 off (only s) (omega arith) in omega arith
+
+  pub forget-below : a * 4096 + b < 2 ^ 24
+  forget-below = let m = forget-on in let n = forget-off in omega arith
+
+  pub forget-word : conditionIn (a * 4096 + b) ≡ forget s (conditionIn w)
+  unfolding forget
+  forget-word =
+      let p : a ≡ (w / 2 ^ 12 % 2 ^ 12) without s = k ∙ ap (λ (z : ℕ). z without s) h in
+      let q : b ≡ (w % 2 ^ 12) without s = j ∙ ap (λ (z : ℕ). z without s) i in
+      condition-parts (a * 4096 + b) a b refl forget-on forget-off ∙ (λ n. condition (p n) (q n))

@@ -1,5 +1,5 @@
-// Rising lists of reactions, one above the other in a lent area of words. A reaction is two words, one of O and k, and L.
-// Whoever makes a list returns how many reactions it has, or one of the numbers above MOST below.
+// Lists of rows in order, one above the other in a lent area of words. A row is two words, one of O, k and its condition, and L.
+// Whoever makes a list returns how many rows it has, or one of the numbers above MOST below.
 use esterel::Code;
 ghost use mathlib.Core.Path.{_≡_};
 ghost use mathlib.Core.Bool.{true, false, not};
@@ -7,67 +7,130 @@ ghost use mathlib.Core.List.{[], _∷_, _++_};
 ghost use mathlib.Core.Option.{some};
 ghost use Prim.Native.Nat.{ℕ, _+_, _*_, _/_, _%_, _^_, _≤_, _<_, max};
 ghost use lib.ListN.{length};
+ghost use Rattle.sets.specs.Set.{only};
 ghost use Rattle.esterel.specs.Reactions.{reachedTogether};
-ghost use Rattle.esterel.specs.Listing.{Rising, before, someEnds};
-ghost use Rattle.area.specs.inner.Rules.{changed, joined, joinedAll, pairs, product as productOf};
-ghost use Rattle.area.specs.inner.Area.{packed, rowAt, rows, collect, Made, Put, Searched, MovedUp, Stored, MovedDown, Altered, Beside, Merged};
+ghost use Rattle.esterel.specs.Listing.{someEnds};
+ghost use Rattle.esterel.specs.inner.Conditions.{condition, clashes, forget as forgetOf};
+ghost use Rattle.esterel.specs.inner.Rows.{reactions, localRow};
+ghost use Rattle.esterel.specs.inner.CappedRows.{beforeRow, collectRows};
+ghost use Rattle.area.specs.inner.Layout.{conditionIn, packed};
+ghost use Rattle.area.specs.inner.Rules.{unlessClash, changed, joined, joinedAll, pairs, product as productOf};
+ghost use Rattle.area.specs.inner.Area.{rowAt, rows, InOrder, Alone, Made, Put, Searched, MovedUp, Stored, MovedDown, Altered, Beside, Merged};
 
-// The most reactions of a list.
+// The most rows of a list.
 pub const MOST: usize = 64;
 
-// Returned where there is no list: it would have over MOST reactions; the area is too small for it; it was refused.
+// Returned where there is no list: it would have over MOST rows; the area is too small for it; it was refused.
 pub const OVER: usize = 65;
 
 pub const CRAMPED: usize = 66;
 
 pub const REFUSED: usize = 67;
 
-// The words of MOST reactions and one more.
+// The words of MOST rows and one more.
 const SPARE: usize = 2 * MOST + 2;
 
-// What a statement does with each reaction of its body: a local signal that is present, a loop, a try.
+// What a statement does with each row of its body: a local signal that is present; one that is unknown, with its slot; a branch
+// of a test on an unknown signal, with the condition that it adds; a loop; a try.
 pub enum Change {
     Hide(u8),
+    Local(u8, u8),
+    Given(u64),
     Going,
     Caught,
 }
 
-// How the reactions of two parts meet in one instant.
+// How the rows of two parts meet in one instant.
 pub enum Pairing {
     Sequence,
     Parallel,
 }
 
-// The first word of a reaction, and its two parts. Only these three know how it is put together: O * 256 + k.
-pub fn word_of(o: u64, code: Code) -> u64
-    requires { ⌜ (o < 2 ^ 56) × (code .0 < 256) ⌝ }
-    ensures { λ r. ⌜ r ≡ o * 256 + code .0 ⌝ }
+// How many sets of slots there are, and how many conditions, two sets each.
+const SETS: u64 = 4096;
+
+const CONDITIONS: u64 = 16777216;
+
+// The first word of a row, and its parts. Only these know how it is put together: ((O * 256 + k) * 4096 + on) * 4096 + off.
+pub fn word_of(o: u64, code: Code, condition: u64) -> u64
+    requires { ⌜ (o < 2 ^ 32) × (code .0 < 256) × (condition < 2 ^ 24) ⌝ }
+    ensures { λ r. ⌜ r ≡ (o * 256 + code .0) * 2 ^ 24 + condition ⌝ }
 {
-    o * 256 + code.0 as u64
+    (o * 256 + code.0 as u64) * CONDITIONS + condition
 }
 
 pub fn emitted_in(w: u64) -> u64
-    ensures { λ r. ⌜ r ≡ w / 256 ⌝ }
+    ensures { λ r. ⌜ r ≡ w / 2 ^ 32 ⌝ }
 {
-    w / 256
+    w / 4294967296
 }
 
 pub fn code_in(w: u64) -> Code
-    ensures { λ r. ⌜ r .0 ≡ w % 256 ⌝ }
+    ensures { λ r. ⌜ r .0 ≡ w / 2 ^ 24 % 256 ⌝ }
 {
-    Code((w % 256) as u16)
+    Code((w / CONDITIONS % 256) as u16)
 }
 
-// Whether the reaction of a word ends.
+fn condition_in(w: u64) -> u64
+    ensures { λ r. ⌜ r ≡ w % 2 ^ 24 ⌝ }
+{
+    w % CONDITIONS
+}
+
+fn on_in(w: u64) -> u64
+    ensures { λ r. ⌜ r ≡ w / 2 ^ 12 % 2 ^ 12 ⌝ }
+{
+    w / SETS % SETS
+}
+
+fn off_in(w: u64) -> u64
+    ensures { λ r. ⌜ r ≡ w % 2 ^ 12 ⌝ }
+{
+    w % SETS
+}
+
+// The condition that the signal of a slot is present, and that it is absent.
+pub fn on_slot(slot: u8) -> u64
+    requires { ⌜ slot < 12 ⌝ }
+    ensures { λ r. ⌜ (r < 2 ^ 24) × (conditionIn r ≡ condition (only slot) 0) ⌝ }
+{
+    sets::singleton(slot) * SETS
+}
+
+pub fn off_slot(slot: u8) -> u64
+    requires { ⌜ slot < 12 ⌝ }
+    ensures { λ r. ⌜ conditionIn r ≡ condition 0 (only slot) ⌝ }
+{
+    sets::singleton(slot)
+}
+
+// The condition of a word without a slot.
+fn forget(w: u64, slot: u8) -> u64
+    ensures { λ r. ⌜ (r < 2 ^ 24) × (conditionIn r ≡ forgetOf slot (conditionIn w)) ⌝ }
+{
+    let on = sets::without(on_in(w), slot);
+    let off = sets::without(off_in(w), slot);
+    on * SETS + off
+}
+
+// Whether a slot has to be there and not there.
+fn clashing(w: u64) -> bool
+    ensures { λ r. ⌜ r ≡ clashes (conditionIn w) ⌝ }
+{
+    let shared = on_in(w) & off_in(w);
+    shared != 0
+}
+
+// Whether the row of a word ends.
 fn ends(w: u64) -> bool
-    ensures { λ r. ⌜ (r ≡ true → w % 256 ≡ 0) × (r ≡ false → w % 256 ≡ 0 → ⊥) ⌝ }
+    ensures { λ r. ⌜ (r ≡ true → w / 2 ^ 24 % 256 ≡ 0) × (r ≡ false → w / 2 ^ 24 % 256 ≡ 0 → ⊥) ⌝ }
 {
     let code = code_in(w);
     code.0 == esterel::ENDED
 }
 
 fn less(w: u64, l: u64, v: u64, m: u64) -> bool
-    ensures { λ r. ⌜ r ≡ before (packed w l) (packed v m) ⌝ }
+    ensures { λ r. ⌜ r ≡ beforeRow (packed w l) (packed v m) ⌝ }
 {
     if w < v {
         return true;
@@ -78,27 +141,45 @@ fn less(w: u64, l: u64, v: u64, m: u64) -> bool
     l < m
 }
 
-// How many of the n reactions at base are not above (w, l), searched from the end.
+// The place of (w, l) among the n rows at base, of which the n-th is above it; each step halves what is left.
+fn search(area: &[u64], base: usize, n: usize, w: u64, l: u64) -> usize
+    requires { ⌜ (base + 2 * n + 2 ≤ length (now area)) × (beforeRow (packed w l) (rowAt (now area) (base + 2 * n)) ≡ true) ⌝ }
+    ensures { λ r. ⌜ Searched (now (area .entry)) base (n + 1) (packed w l) r ⌝ }
+{
+    let mut low = 0;
+    let mut high = n;
+    while low < high {
+        let half = low + (high - low) / 2;
+        let q = base + 2 * half;
+        if less(w, l, area[q], area[q + 1]) {
+            high = half;
+            continue;
+        }
+        low = half + 1;
+    }
+    high
+}
+
+// The place of (w, l) among the n rows at base: behind the last, which is usual, or searched for.
 fn place(area: &[u64], base: usize, n: usize, w: u64, l: u64) -> usize
     requires { ⌜ base + 2 * n ≤ length (now area) ⌝ }
     ensures { λ r. ⌜ Searched (now (area .entry)) base n (packed w l) r ⌝ }
 {
-    let mut j = n;
-    while 0 < j {
-        let i = j - 1;
-        let q = base + 2 * i;
-        if !less(w, l, area[q], area[q + 1]) {
-            return j;
-        }
-        j = i;
+    if n == 0 {
+        return 0;
     }
-    0
+    let i = n - 1;
+    let q = base + 2 * i;
+    if less(w, l, area[q], area[q + 1]) {
+        return search(area, base, i, w, l);
+    }
+    n
 }
 
-// Whether the last of the p reactions at base, none of them above (w, l), is (w, l).
+// Whether the last of the p rows at base, which is not above (w, l), is (w, l).
 fn there(area: &[u64], base: usize, p: usize, w: u64, l: u64) -> bool
     requires { ⌜ base + 2 * p ≤ length (now area) ⌝ }
-    ensures { λ r. ⌜ (p ≡ 0 → r ≡ false) × ((j : ℕ) → p ≡ j + 1 → before (rowAt (now (area .entry)) (base + 2 * j)) (packed w l) ≡ not r) ⌝ }
+    ensures { λ r. ⌜ (p ≡ 0 → r ≡ false) × ((j : ℕ) → p ≡ j + 1 → beforeRow (rowAt (now (area .entry)) (base + 2 * j)) (packed w l) ≡ not r) ⌝ }
 {
     if p == 0 {
         return false;
@@ -128,7 +209,7 @@ fn store(area: &mut [u64], q: usize, w: u64, l: u64)
     area[q + 1] = l;
 }
 
-// The n reactions at f copied down to t.
+// The n rows at f copied down to t.
 fn lower(area: &mut [u64], t: usize, f: usize, n: usize)
     requires { ⌜ (t ≤ f) × (f + 2 * n ≤ length (now area)) ⌝ }
     ensures { λ _. ⌜ MovedDown (now (area .entry)) (now (area .exit)) t f n ⌝ }
@@ -141,10 +222,10 @@ fn lower(area: &mut [u64], t: usize, f: usize, n: usize)
     }
 }
 
-// (w, l) put among the n rising reactions at base, unless it is there: the one way into a list.
+// (w, l) put among the n rows at base, which are in order, unless it is there: the one way into a list.
 fn put(area: &mut [u64], base: usize, n: usize, w: u64, l: u64) -> usize
-    requires { ⌜ (n ≤ 64) × (base + 2 * n + 2 ≤ length (now area)) × Rising (rows (now area) base n) ⌝ }
-    ensures { λ r. ⌜ Put (now (area .entry)) (now (area .exit)) base n (collect (packed w l ∷ rows (now (area .entry)) base n)) r ⌝ }
+    requires { ⌜ (n ≤ 64) × (base + 2 * n + 2 ≤ length (now area)) × InOrder (rows (now area) base n) ⌝ }
+    ensures { λ r. ⌜ Put (now (area .entry)) (now (area .exit)) base n (collectRows (packed w l ∷ rows (now (area .entry)) base n)) r ⌝ }
 {
     let p = place(area, base, n, w, l);
     if there(area, base, p, w, l) {
@@ -159,6 +240,17 @@ fn put(area: &mut [u64], base: usize, n: usize, w: u64, l: u64) -> usize
     n + 1
 }
 
+// The same, unless its condition clashes.
+fn put_unless_clash(area: &mut [u64], base: usize, n: usize, w: u64, l: u64) -> usize
+    requires { ⌜ (n ≤ 64) × (base + 2 * n + 2 ≤ length (now area)) × InOrder (rows (now area) base n) ⌝ }
+    ensures { λ r. ⌜ Put (now (area .entry)) (now (area .exit)) base n (collectRows (unlessClash (packed w l) ++ rows (now (area .entry)) base n)) r ⌝ }
+{
+    if clashing(w) {
+        return n;
+    }
+    put(area, base, n, w, l)
+}
+
 // The list of (w, l) alone.
 pub fn one(area: &mut [u64], base: usize, w: u64, l: u64) -> usize
     requires { ⌜ base + 2 ≤ length (now area) ⌝ }
@@ -168,7 +260,7 @@ pub fn one(area: &mut [u64], base: usize, w: u64, l: u64) -> usize
     1
 }
 
-// Whether there is a list of n reactions at base, and room for one more reaction above it.
+// Whether there is a list of n rows at base, and room for one more row above it.
 pub fn room(area: &[u64], base: usize, n: usize) -> bool
     requires { ⌜ base ≤ length (now area) ⌝ }
     ensures { λ r. ⌜ (r ≡ true → (n ≤ 64) × (base + 2 * n + 2 ≤ length (now (area .entry)))) × (r ≡ false → n ≤ 64 → length (now (area .entry)) < base + 2 * n + 2) ⌝ }
@@ -179,10 +271,36 @@ pub fn room(area: &[u64], base: usize, n: usize) -> bool
     2 * n + 2 <= area.len() - base
 }
 
-// What becomes of (w, l), put among the m reactions at base.
+// What becomes of (w, l) below a local signal that is unknown, put among the m rows at base.
+fn alter_local(
+    area: &mut [u64],
+    base: usize,
+    m: usize,
+    signal: u8,
+    slot: u8,
+    w: u64,
+    l: u64,
+) -> usize
+    requires { ⌜ (m ≤ 64) × (base + 2 * m + 2 ≤ length (now area)) × InOrder (rows (now area) base m) ⌝ }
+    ensures { λ r. ⌜ Put (now (area .entry)) (now (area .exit)) base m (collectRows (localRow signal slot (packed w l) ++ rows (now (area .entry)) base m)) r ⌝ }
+{
+    let o = emitted_in(w);
+    let code = code_in(w);
+    let rest = forget(w, slot);
+    if sets::contains(o, signal) {
+        let others = sets::without(o, signal);
+        return put(area, base, m, word_of(others, code, rest), l);
+    }
+    if sets::contains(on_in(w), slot) {
+        return m;
+    }
+    put(area, base, m, word_of(o, code, rest), l)
+}
+
+// What becomes of (w, l), put among the m rows at base.
 fn alter_one(area: &mut [u64], base: usize, m: usize, change: Change, w: u64, l: u64) -> usize
-    requires { ⌜ (m ≤ 64) × (base + 2 * m + 2 ≤ length (now area)) × Rising (rows (now area) base m) ⌝ }
-    ensures { λ r. ⌜ Put (now (area .entry)) (now (area .exit)) base m (collect (changed change (packed w l) ++ rows (now (area .entry)) base m)) r ⌝ }
+    requires { ⌜ (m ≤ 64) × (base + 2 * m + 2 ≤ length (now area)) × InOrder (rows (now area) base m) ⌝ }
+    ensures { λ r. ⌜ Put (now (area .entry)) (now (area .exit)) base m (collectRows (changed change (packed w l) ++ rows (now (area .entry)) base m)) r ⌝ }
 {
     match change {
         Change::Hide(signal) => {
@@ -191,7 +309,12 @@ fn alter_one(area: &mut [u64], base: usize, m: usize, change: Change, w: u64, l:
                 return m;
             }
             let rest = sets::without(o, signal);
-            put(area, base, m, word_of(rest, code_in(w)), l)
+            put(area, base, m, word_of(rest, code_in(w), condition_in(w)), l)
+        }
+        Change::Local(signal, slot) => alter_local(area, base, m, signal, slot, w, l),
+        Change::Given(condition) => {
+            let both = condition_in(condition | w);
+            put_unless_clash(area, base, m, word_of(emitted_in(w), code_in(w), both), l)
         }
         Change::Going => {
             if ends(w) {
@@ -201,12 +324,18 @@ fn alter_one(area: &mut [u64], base: usize, m: usize, change: Change, w: u64, l:
         }
         Change::Caught => {
             let code = esterel::through_try(code_in(w));
-            put(area, base, m, word_of(emitted_in(w), code), l)
+            put(
+                area,
+                base,
+                m,
+                word_of(emitted_in(w), code, condition_in(w)),
+                l,
+            )
         }
     }
 }
 
-// Each of the n reactions at base changed, in place; n itself where it says that there is no list.
+// Each of the n rows at base changed, in place; n itself where it says that there is no list.
 pub fn alter(area: &mut [u64], base: usize, n: usize, change: Change) -> usize
     requires { ⌜ (n ≤ 64 → base + 2 * n ≤ length (now area)) ⌝ }
     ensures { λ r. ⌜ Altered change (now (area .entry)) (now (area .exit)) base n r ⌝ }
@@ -226,10 +355,10 @@ pub fn alter(area: &mut [u64], base: usize, n: usize, change: Change) -> usize
     m
 }
 
-// Whether some reaction ends, with the code 0.
+// Whether some row ends, with the code 0.
 pub fn some_ends(area: &[u64], base: usize, n: usize) -> bool
     requires { ⌜ base + 2 * n ≤ length (now area) ⌝ }
-    ensures { λ r. ⌜ r ≡ someEnds (rows (now (area .entry)) base n) ⌝ }
+    ensures { λ r. ⌜ r ≡ someEnds (reactions (rows (now (area .entry)) base n)) ⌝ }
 {
     let mut i = 0;
     while i < n {
@@ -241,7 +370,7 @@ pub fn some_ends(area: &[u64], base: usize, n: usize) -> bool
     false
 }
 
-// A reaction as its two words.
+// A row as its two words.
 pub struct Words {
     pub w: u64,
     pub l: u64,
@@ -261,27 +390,38 @@ fn reached(code: Code, a: u64, b: u64) -> u64
     if code.0 == esterel::PAUSED { a | b } else { 0 }
 }
 
-// Two reactions of one instant.
+// Two rows of one instant.
 fn join(how: Pairing, w: u64, l: u64, v: u64, m: u64) -> Words
     ensures { λ r. ⌜ packed (r .w) (r .l) ≡ joined how (packed w l) (packed v m) ⌝ }
 {
+    let both = w | v;
     match how {
         Pairing::Sequence => Words {
-            w: word_of(emitted_in(w | v), code_in(v)),
+            w: word_of(emitted_in(both), code_in(v), condition_in(both)),
             l: m,
         },
         Pairing::Parallel => {
             let code = larger_code(code_in(w), code_in(v));
-            let both = reached(code, l, m);
+            let labels = reached(code, l, m);
             Words {
-                w: word_of(emitted_in(w | v), code),
-                l: both,
+                w: word_of(emitted_in(both), code, condition_in(both)),
+                l: labels,
             }
         }
     }
 }
 
-// (w, l) with each of the n2 reactions at mid, put among the n at top.
+// Whether a row meets none of the other part: in a sequence, one that does not end.
+fn alone(how: Pairing, w: u64) -> bool
+    ensures { λ r. ⌜ Alone how w r ⌝ }
+{
+    match how {
+        Pairing::Sequence => !ends(w),
+        Pairing::Parallel => false,
+    }
+}
+
+// (w, l) with each of the n2 rows at mid that it does not clash with, put among the n at top.
 fn add_joined(
     area: &mut [u64],
     mid: usize,
@@ -292,8 +432,8 @@ fn add_joined(
     w: u64,
     l: u64,
 ) -> usize
-    requires { ⌜ (n ≤ 64) × (mid + 2 * n2 ≤ top) × (top + 130 ≤ length (now area)) × Rising (rows (now area) top n) ⌝ }
-    ensures { λ r. ⌜ Made (now (area .entry)) (now (area .exit)) top 0 (collect (joinedAll how (rows (now (area .entry)) mid n2) (packed w l) ++ rows (now (area .entry)) top n)) r ⌝ }
+    requires { ⌜ (n ≤ 64) × (mid + 2 * n2 ≤ top) × (top + 130 ≤ length (now area)) × InOrder (rows (now area) top n) ⌝ }
+    ensures { λ r. ⌜ Made (now (area .entry)) (now (area .exit)) top 0 (collectRows (joinedAll how (rows (now (area .entry)) mid n2) (packed w l) ++ rows (now (area .entry)) top n)) r ⌝ }
 {
     let mut count = n;
     let mut j = 0;
@@ -302,7 +442,7 @@ fn add_joined(
         let v = area[q];
         let m = area[q + 1];
         let x = join(how, w, l, v, m);
-        count = put(area, top, count, x.w, x.l);
+        count = put_unless_clash(area, top, count, x.w, x.l);
         if MOST < count {
             return count;
         }
@@ -311,7 +451,7 @@ fn add_joined(
     count
 }
 
-// What (w, l) gives with the n2 reactions at mid, put among the n at top.
+// What (w, l) gives with the n2 rows at mid, put among the n at top.
 fn add_pairs(
     area: &mut [u64],
     mid: usize,
@@ -322,53 +462,39 @@ fn add_pairs(
     w: u64,
     l: u64,
 ) -> usize
-    requires { ⌜ (n ≤ 64) × (mid + 2 * n2 ≤ top) × (top + 130 ≤ length (now area)) × Rising (rows (now area) top n) ⌝ }
-    ensures { λ r. ⌜ Made (now (area .entry)) (now (area .exit)) top 0 (collect (pairs how (rows (now (area .entry)) mid n2) (packed w l) ++ rows (now (area .entry)) top n)) r ⌝ }
+    requires { ⌜ (n ≤ 64) × (mid + 2 * n2 ≤ top) × (top + 130 ≤ length (now area)) × InOrder (rows (now area) top n) ⌝ }
+    ensures { λ r. ⌜ Made (now (area .entry)) (now (area .exit)) top 0 (collectRows (pairs how (rows (now (area .entry)) mid n2) (packed w l) ++ rows (now (area .entry)) top n)) r ⌝ }
 {
-    match how {
-        Pairing::Sequence => {
-            if ends(w) {
-                add_joined(area, mid, n2, top, n, how, w, l)
-            } else {
-                put(area, top, n, w, l)
-            }
-        }
-        Pairing::Parallel => add_joined(area, mid, n2, top, n, how, w, l),
+    if alone(how, w) {
+        return put(area, top, n, w, l);
     }
+    add_joined(area, mid, n2, top, n, how, w, l)
 }
 
-// What one reaction gives with one other.
-fn meet(how: Pairing, w: u64, l: u64, v: u64, m: u64) -> Words
-    ensures { λ r. ⌜ pairs how (packed v m ∷ []) (packed w l) ≡ packed (r .w) (r .l) ∷ [] ⌝ }
-{
-    match how {
-        Pairing::Sequence => {
-            if ends(w) {
-                return join(how, w, l, v, m);
-            }
-            Words { w, l }
-        }
-        Pairing::Parallel => join(how, w, l, v, m),
-    }
-}
-
-// The product of two lists of one reaction each, which is most of what is asked for.
+// The product of two lists of one row each, which is most of what is asked for.
 fn product_of_one(area: &mut [u64], base: usize, how: Pairing) -> usize
     requires { ⌜ base + 4 ≤ length (now area) ⌝ }
-    ensures { λ r. ⌜ Made (now (area .entry)) (now (area .exit)) base 0 (collect (productOf how (rows (now (area .entry)) base 1) (rows (now (area .entry)) (base + 2) 1))) r ⌝ }
+    ensures { λ r. ⌜ Made (now (area .entry)) (now (area .exit)) base 0 (collectRows (productOf how (rows (now (area .entry)) base 1) (rows (now (area .entry)) (base + 2) 1))) r ⌝ }
 {
     let w = area[base];
+    if alone(how, w) {
+        return 1;
+    }
     let l = area[base + 1];
     let v = area[base + 2];
     let m = area[base + 3];
-    let x = meet(how, w, l, v, m);
-    one(area, base, x.w, x.l)
+    let x = join(how, w, l, v, m);
+    let both = x.w;
+    if clashing(both) {
+        return 0;
+    }
+    one(area, base, both, x.l)
 }
 
-// Each of the n1 reactions at base with each of the n2 above them, put together at top and moved down.
+// Each of the n1 rows at base with each of the n2 above them, put together at top and moved down.
 fn product_of_many(area: &mut [u64], base: usize, n1: usize, n2: usize, how: Pairing) -> usize
     requires { ⌜ base + 2 * n1 + 2 * n2 + 130 ≤ length (now area) ⌝ }
-    ensures { λ r. ⌜ Made (now (area .entry)) (now (area .exit)) base 0 (collect (productOf how (rows (now (area .entry)) base n1) (rows (now (area .entry)) (base + 2 * n1) n2))) r ⌝ }
+    ensures { λ r. ⌜ Made (now (area .entry)) (now (area .exit)) base 0 (collectRows (productOf how (rows (now (area .entry)) base n1) (rows (now (area .entry)) (base + 2 * n1) n2))) r ⌝ }
 {
     let mid = base + 2 * n1;
     let top = mid + 2 * n2;
@@ -388,7 +514,7 @@ fn product_of_many(area: &mut [u64], base: usize, n1: usize, n2: usize, how: Pai
     n
 }
 
-// The product of the n1 reactions at base and the n2 above them; n2 itself where it says that there is no list.
+// The product of the n1 rows at base and the n2 above them; n2 itself where it says that there is no list.
 pub fn product(area: &mut [u64], base: usize, n1: usize, n2: usize, how: Pairing) -> usize
     requires { ⌜ Beside (now area) base n1 n2 ⌝ }
     ensures { λ r. ⌜ Merged (productOf how) (now (area .entry)) (now (area .exit)) base n1 n2 r ⌝ }
@@ -407,7 +533,7 @@ pub fn product(area: &mut [u64], base: usize, n1: usize, n2: usize, how: Pairing
     product_of_many(area, base, n1, n2, how)
 }
 
-// Whether the next of two rising lists is the i-th of the first, rather than the j-th of the second.
+// Whether the next of two lists in order is the i-th of the first, rather than the j-th of the second.
 fn first(area: &[u64], base: usize, i: usize, n1: usize, mid: usize, j: usize, n2: usize) -> bool
     requires { ⌜ (i ≤ n1) × (j ≤ n2) × (i + j < n1 + n2) × (base + 2 * n1 ≤ length (now area)) × (mid + 2 * n2 ≤ length (now area)) ⌝ }
     ensures { λ r. ⌜ (r ≡ true → i < n1) × (r ≡ false → j < n2) ⌝ }
@@ -423,10 +549,10 @@ fn first(area: &[u64], base: usize, i: usize, n1: usize, mid: usize, j: usize, n
     less(area[p], area[p + 1], area[q], area[q + 1])
 }
 
-// The reaction at p put among the n at top.
+// The row at p put among the n at top.
 fn carry(area: &mut [u64], p: usize, top: usize, n: usize) -> usize
-    requires { ⌜ (n ≤ 64) × (p + 2 ≤ top) × (top + 130 ≤ length (now area)) × Rising (rows (now area) top n) ⌝ }
-    ensures { λ r. ⌜ Made (now (area .entry)) (now (area .exit)) top 0 (collect (rowAt (now (area .entry)) p ∷ rows (now (area .entry)) top n)) r ⌝ }
+    requires { ⌜ (n ≤ 64) × (p + 2 ≤ top) × (top + 130 ≤ length (now area)) × InOrder (rows (now area) top n) ⌝ }
+    ensures { λ r. ⌜ Made (now (area .entry)) (now (area .exit)) top 0 (collectRows (rowAt (now (area .entry)) p ∷ rows (now (area .entry)) top n)) r ⌝ }
 {
     let w = area[p];
     let l = area[p + 1];
@@ -436,7 +562,7 @@ fn carry(area: &mut [u64], p: usize, top: usize, n: usize) -> usize
 // The smaller head of the two lists put at top, until both are used up, and all of it moved down.
 fn merge_both(area: &mut [u64], base: usize, n1: usize, n2: usize) -> usize
     requires { ⌜ base + 2 * n1 + 2 * n2 + 130 ≤ length (now area) ⌝ }
-    ensures { λ r. ⌜ Made (now (area .entry)) (now (area .exit)) base 0 (collect (rows (now (area .entry)) base n1 ++ rows (now (area .entry)) (base + 2 * n1) n2)) r ⌝ }
+    ensures { λ r. ⌜ Made (now (area .entry)) (now (area .exit)) base 0 (collectRows (rows (now (area .entry)) base n1 ++ rows (now (area .entry)) (base + 2 * n1) n2)) r ⌝ }
 {
     let mid = base + 2 * n1;
     let top = mid + 2 * n2;
@@ -463,7 +589,7 @@ fn merge_both(area: &mut [u64], base: usize, n1: usize, n2: usize) -> usize
     n
 }
 
-// The n1 rising reactions at base and the n2 rising ones above them as one list; n2 itself where it says that there is none.
+// The n1 rows at base and the n2 above them, each in order, as one list; n2 itself where it says that there is none.
 pub fn merge(area: &mut [u64], base: usize, n1: usize, n2: usize) -> usize
     requires { ⌜ Beside (now area) base n1 n2 ⌝ }
     ensures { λ r. ⌜ Merged _++_ (now (area .entry)) (now (area .exit)) base n1 n2 r ⌝ }

@@ -14,15 +14,15 @@ use Rattle.esterel.specs.Reactions.{Reaction}
 use Rattle.esterel.specs.Listing.{Listed, Before, Rising, before, insert, sorted, one, onlyIf, each}
 
 -- ---- members of lists
-pub append-left : (r : Reaction) (ts us : List Reaction) → Listed r ts → Listed r (ts ++ us)
+pub append-left : {A : Type 0} (r : A) (ts us : List A) → Listed r ts → Listed r (ts ++ us)
 append-left r (t ∷ ts) us (inl e) = inl e
 append-left r (t ∷ ts) us (inr h) = inr (append-left r ts us h)
 
-pub append-right : (r : Reaction) (ts us : List Reaction) → Listed r us → Listed r (ts ++ us)
+pub append-right : {A : Type 0} (r : A) (ts us : List A) → Listed r us → Listed r (ts ++ us)
 append-right r [] us h = h
 append-right r (t ∷ ts) us h = inr (append-right r ts us h)
 
-pub append-cases : (r : Reaction) (ts us : List Reaction) → Listed r (ts ++ us) → Listed r ts ⊎ Listed r us
+pub append-cases : {A : Type 0} (r : A) (ts us : List A) → Listed r (ts ++ us) → Listed r ts ⊎ Listed r us
 append-cases r [] us h = inr h
 append-cases r (t ∷ ts) us (inl e) = inl (inl e)
 append-cases r (t ∷ ts) us (inr h) = go (append-cases r ts us h)

@@ -18,10 +18,10 @@ use Rattle.esterel.specs.Reactions as rule
 abbrev pub SameBut : ℕ → ℕ → ℕ → Type 0
 SameBut S E F = (x : ℕ) → S ≢ x → has E x ≡ has F x
 
-same-but-union : (S S′ E F : ℕ) → SameBut S E F → SameBut S (E union only S′) (F union only S′)
+pub same-but-union : (S S′ E F : ℕ) → SameBut S E F → SameBut S (E union only S′) (F union only S′)
 same-but-union S S′ E F o x n = has-union E (only S′) x ∙ ap (λ b. b || has (only S′) x) (o x n) ∙ sym (has-union F (only S′) x)
 
-same-but-without : (S S′ E F : ℕ) → SameBut S E F → SameBut S (E without S′) (F without S′)
+pub same-but-without : (S S′ E F : ℕ) → SameBut S E F → SameBut S (E without S′) (F without S′)
 same-but-without S S′ E F o x n = go (ℕ-discrete S′ x)
   where
     go : Dec (S′ ≡ x) → has (E without S′) x ≡ has (F without S′) x

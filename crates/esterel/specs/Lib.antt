@@ -5,3 +5,4 @@ pub mod Trimming
 pub mod Reactions
 pub mod Runs
 pub mod Listing
+pub mod inner

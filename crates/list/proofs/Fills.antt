@@ -2,7 +2,7 @@
 -- of what was there.
 use mathlib.Core.Path.{_≡_, refl, sym, ap, _∙_, subst}
 use mathlib.Core.List.{List, [], _∷_, _++_, map}
-use Prim.Native.Nat.{ℕ, zero, suc, _+_, _*_, _-_, _/_, _%_, _≤_, _<_}
+use Prim.Native.Nat.{ℕ, zero, suc, _+_, _*_, _-_, _/_, _%_, _^_, _≤_, _<_}
 use native.Mathlib.Omega.{arith}
 use native.Mathlib.Decide.{decLt}
 use native.Mathlib.Nat.{mul-suc}
@@ -12,9 +12,12 @@ use lib.Seq.{paste, length-paste, length-paste-head, length-take-le, getD-take, 
 use Rattle.esterel.specs.Reactions.{Reaction}
 use Rattle.table.specs.Bits.{bytes}
 use Rattle.table.proofs.Bits.{length-bytes}
-use Rattle.area.specs.inner.Area.{packed, rowAt, rows}
-use Rattle.area.proofs.Rows.{rows-length}
+use Rattle.esterel.specs.inner.Rows.{reactions}
+use Rattle.area.specs.inner.Layout.{packed}
+use Rattle.area.specs.inner.Area.{rowAt, rows}
 use Rattle.list.specs.Buffers.{emittedIn, codeIn, reachedIn, front, spread}
+use Rattle.list.specs.inner.Finding.{reactionsHeld}
+use Rattle.list.proofs.Limits.{held-length}
 
 -- ---- in front of what was there
 getD-after : (xs ys : List ℕ) (i : ℕ) → length xs ≤ i → getD (xs ++ ys) i 0 ≡ getD ys (i - length xs) 0
@@ -61,28 +64,30 @@ filled-all vs old new i f e h = front-is vs old new h (f .same) (λ j k. f .done
 
 -- ---- the reactions of an area, one field of each
 module _ (f : Reaction → ℕ) (a : List ℕ) where
-  pub fields-length : (q n : ℕ) → length (map f (rows a q n)) ≡ n
-  fields-length q n = length-map (rows a q n) f ∙ rows-length a q n
+  pub fields-length : (n : ℕ) → length (map f (reactionsHeld a n)) ≡ n
+  fields-length n = length-map (reactionsHeld a n) f ∙ held-length a 0 n
 
-  pub fields-at : (q n i : ℕ) → i < n → getD (map f (rows a q n)) i 0 ≡ f (rowAt a (q + 2 * i))
-  unfolding rows
+  fields-at : (q n i : ℕ) → i < n → getD (map f (reactions (rows a q n))) i 0 ≡ f (rowAt a (q + 2 * i) .reacts)
+  unfolding rows reactions
   fields-at q zero i h = absurd (omega arith)
-  fields-at q (suc n) zero h = let e : q ≡ q + 2 * zero = omega arith in ap (λ (z : ℕ). f (rowAt a z)) e
-  fields-at q (suc n) (suc i) h = let e : q + 2 + 2 * i ≡ q + 2 * suc i = omega arith in fields-at (q + 2) n i (omega arith) ∙ ap (λ (z : ℕ). f (rowAt a z)) e
+  fields-at q (suc n) zero h = let e : q ≡ q + 2 * zero = omega arith in ap (λ (z : ℕ). f (rowAt a z .reacts)) e
+  fields-at q (suc n) (suc i) h =
+      let e : q + 2 + 2 * i ≡ q + 2 * suc i = omega arith in
+      fields-at (q + 2) n i (omega arith) ∙ ap (λ (z : ℕ). f (rowAt a z .reacts)) e
 
 module _ (a : List ℕ) (n i : ℕ) (h : i < n) where
-  from-front : (f : Reaction → ℕ) → getD (map f (rows a 0 n)) i 0 ≡ f (rowAt a (2 * i))
-  from-front f = let e : 0 + 2 * i ≡ 2 * i = omega arith in fields-at f a 0 n i h ∙ ap (λ (z : ℕ). f (rowAt a z)) e
+  from-front : (f : Reaction → ℕ) → getD (map f (reactionsHeld a n)) i 0 ≡ f (rowAt a (2 * i) .reacts)
+  from-front f = let e : 0 + 2 * i ≡ 2 * i = omega arith in fields-at f a 0 n i h ∙ ap (λ (z : ℕ). f (rowAt a z .reacts)) e
 
-  pub signals-at : getD a (2 * i) 0 / 256 ≡ getD (map emittedIn (rows a 0 n)) i 0
+  pub signals-at : getD a (2 * i) 0 / 2 ^ 32 ≡ getD (map emittedIn (reactionsHeld a n)) i 0
   unfolding packed
   signals-at = sym (from-front emittedIn)
 
-  pub codes-at : getD a (2 * i) 0 % 256 ≡ getD (map codeIn (rows a 0 n)) i 0
+  pub codes-at : getD a (2 * i) 0 / 2 ^ 24 % 256 ≡ getD (map codeIn (reactionsHeld a n)) i 0
   unfolding packed
   codes-at = sym (from-front codeIn)
 
-  pub labels-at : getD a (2 * i + 1) 0 ≡ getD (map reachedIn (rows a 0 n)) i 0
+  pub labels-at : getD a (2 * i + 1) 0 ≡ getD (map reachedIn (reactionsHeld a n)) i 0
   unfolding packed
   labels-at = sym (from-front reachedIn)
 

@@ -7,29 +7,41 @@ use native.Mathlib.Omega.{arith}
 use native.Mathlib.Decide.{decLt}
 use lib.ListN.{length, getD, set, length-set}
 use lib.Seq.{getD-set-same, getD-set-other}
-use Rattle.esterel.specs.Statement.{Statement}
-use Rattle.esterel.specs.Reactions.{start, resumed}
-use Rattle.esterel.specs.Listing.{Rising}
-use Rattle.area.specs.inner.Area.{rows, Made}
+use Rattle.esterel.specs.Statement.{Statement, depth}
+use Rattle.esterel.specs.Reactions.{State, start, resumed}
+use Rattle.esterel.specs.inner.CappedRows.{CappedRows, cappedRows}
+use Rattle.area.specs.inner.Area.{rows, InOrder, Made}
 use Rattle.area.proofs.Rows.{rows-agree}
-use Rattle.area.proofs.Made.{made-as}
-use Rattle.list.specs.inner.Capped.{Capped, capped}
-use Rattle.list.specs.inner.Notes.{Copied}
+use Rattle.area.proofs.Made.{made-as, made-need}
+use Rattle.lister.specs.inner.Joins.{roomFor}
+use Rattle.list.specs.declared.State.{State as Asked}
+use Rattle.list.specs.declared.State.the-variants.{Start, Resumed}
 use Rattle.list.specs.Answers.{stateOf}
+use Rattle.list.specs.inner.Preparing.{stateIn}
+use Rattle.list.specs.inner.Finding.{Copied}
 
--- ---- the state of a mark
-module _ {a b : List ℕ} {base need n : ℕ} (p : Statement) (E mark X : ℕ) where
-  pub in-start : mark ≡ 0 → Made a b base need (capped p start E) n → Made a b base need (capped p (stateOf mark X) E) n
-  unfolding stateOf
-  in-start e m = made-as m (ap (λ (z : ℕ). capped p (stateOf z X) E) (sym e))
+-- ---- the state
+pub state-start : (s : Asked) → s ≡ Start → start ≡ stateIn s
+unfolding stateIn
+state-start s e = sym (ap stateIn e)
 
-  pub in-resumed : (mark ≡ 0 → ⊥) → Made a b base need (capped p (resumed X) E) n → Made a b base need (capped p (stateOf mark X) E) n
-  unfolding stateOf
-  in-resumed h m = made-as m (go mark h)
-    where
-      go : (z : ℕ) → (z ≡ 0 → ⊥) → capped p (resumed X) E ≡ capped p (stateOf z X) E
-      go zero f = absurd (f refl)
-      go (suc z) f = refl
+pub state-resumed : (s : Asked) (X : ℕ) → s ≡ Resumed X → resumed X ≡ stateIn s
+unfolding stateIn
+state-resumed s X e = sym (ap stateIn e)
+
+pub mark-start : (mark X : ℕ) → mark ≡ 0 → stateIn Start ≡ stateOf mark X
+unfolding stateIn stateOf
+mark-start mark X e = ap (λ (z : ℕ). stateOf z X) (sym e)
+
+pub mark-resumed : (mark X : ℕ) → (mark ≡ 0 → ⊥) → stateIn (Resumed X) ≡ stateOf mark X
+unfolding stateIn stateOf
+mark-resumed zero X h = absurd (h refl)
+mark-resumed (suc mark) X h = refl
+
+-- the rows of a statement that is no deeper than 60
+pub made-in : {a b : List ℕ} {n : ℕ} (M : ℕ) (p : Statement) (E : ℕ) {x y : State} → x ≡ y → depth p ≤ 60
+    → Made a b 0 (0 + roomFor p) (cappedRows M p x E 0) n → Made a b 0 7940 (cappedRows M p y E 0) n
+made-in M p E e h m = made-as (made-need 7940 m (omega arith)) (ap (λ (z : State). cappedRows M p z E 0) e)
 
 -- ---- copying
 -- the first i words are copied
@@ -47,13 +59,13 @@ copying-step large a₀ a i c h = record { same-length = length-set a i (getD la
         let s = c .same-length in
         ap (λ (z : ℕ). getD (set a i (getD large i 0)) z 0) e ∙ getD-set-same a i (getD large i 0) 0 (omega arith) ∙ ap (λ (z : ℕ). getD large z 0) (sym e)
 
-pub made-copied : {l₀ l a b : List ℕ} {n : ℕ} {v : Capped} → Made l₀ l 0 7940 v n → 7940 ≤ length l₀ → 128 ≤ length a → Copied l a b n → Made a b 0 0 v n
+pub made-copied : {l₀ l a b : List ℕ} {n : ℕ} {v : CappedRows} → Made l₀ l 0 7940 v n → 7940 ≤ length l₀ → 128 ≤ length a → Copied l a b n → Made a b 0 0 v n
 made-copied {l₀} {l} {a} {b} {n} m h k c = record {
   same = c .same-length;
   low = λ i q. absurd (omega arith);
   fits = λ q. omega arith;
   listed = λ q. m .listed q ∙ ap some (sym (there q));
-  rising = λ q. subst Rising (sym (there q)) (m .rising q);
+  rising = λ q. subst InOrder (sym (there q)) (m .rising q);
   over = m .over;
   cramped = λ q. absurd (let z = m .cramped q in omega arith);
 }
@@ -62,10 +74,10 @@ made-copied {l₀} {l} {a} {b} {n} m h k c = record {
     there q = rows-agree l b 0 n (λ i u w. c .copied q i (omega arith))
 
 -- the area was large enough, or another one was
-pub made-first : {a b : List ℕ} {n : ℕ} {v : Capped} → Made a b 0 7940 v n → n ≤ 65 → Made a b 0 0 v n
+pub made-first : {a b : List ℕ} {n : ℕ} {v : CappedRows} → Made a b 0 7940 v n → n ≤ 65 → Made a b 0 0 v n
 made-first m h = record { same = m .same; low = m .low; fits = m .fits; listed = m .listed; rising = m .rising; over = m .over; cramped = λ k. absurd (omega arith) }
 
-pub made-again : {a b c : List ℕ} {n r : ℕ} {v w : Capped} → Made a b 0 7940 w n → Made b c 0 0 v r → Made a c 0 0 v r
+pub made-again : {a b c : List ℕ} {n r : ℕ} {v w : CappedRows} → Made a b 0 7940 w n → Made b c 0 0 v r → Made a c 0 0 v r
 made-again m p =
     let e = m .same in
     record {

@@ -1,9 +1,5 @@
-pub mod Capped
-pub mod Nodes
 pub mod Marks
-pub mod Joins
-pub mod Starts
-pub mod Resumes
+pub mod Slotting
 pub mod Findings
 pub mod Limits
 pub mod Fills

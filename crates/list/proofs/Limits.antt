@@ -1,88 +1,132 @@
--- The answer for a statement, from its nesting and from what the lister left: refusal 14, refusal 15, or its listing. And for a
--- table, by the answer of check.
+-- The answer for a statement, from what the lister left: refusal 15, or its listing. And what is prepared of a table, by the answer of
+-- check and the nesting of its statement.
 use mathlib.Core.Path.{_≡_, refl, sym, ap, _∙_, subst}
 use mathlib.Core.Bool.{Bool, true, false, cond}
 use mathlib.Core.List.{List, [], _∷_}
-use mathlib.Core.Option.{none, some, Option·none-ne-some, Option·some-injective}
-use Prim.Native.Nat.{ℕ, _≤_, _<_, min}
+use mathlib.Core.Option.{Option, none, some, Option·none-ne-some, Option·some-injective}
+use Prim.Native.Nat.{ℕ, zero, suc, _+_, _≤_, _<_, min}
 use native.Mathlib.Omega.{arith}
 use native.Mathlib.Decide.{decLe}
+use lib.Dec.{eqb}
 use lib.ListN.{length, getD}
 use borrow.Author.Tests.{lt-ltb, le-ltb}
+use Rattle.sets.proofs.Booleans.{eqb-differ}
 use Rattle.esterel.specs.Statement.{Statement}
 use Rattle.esterel.specs.Reactions.{State, Reaction}
-use Rattle.esterel.specs.Listing.{list, listing, crowded, nesting}
+use Rattle.esterel.specs.Listing.{listing, crowded, nesting}
+use Rattle.esterel.specs.inner.Rows.{reactions}
+use Rattle.esterel.specs.inner.CappedRows.{reactionsIn, cappedRows}
+use Rattle.esterel.proofs.CappedRows.{capped-rows-exact}
 use Rattle.table.specs.declared.Checked.{Checked}
 use Rattle.table.specs.declared.Checked.the-variants as checked
 use Rattle.table.specs.Outcomes.{values, numberOf}
 use Rattle.table.specs.Reading.{Table, tableOf, checkOf, checkedOutcome}
+use Rattle.table.specs.Reading as table
 use Rattle.table.specs.inner.Loading.{loadedOf}
 use Rattle.table.specs.inner.Places.{statementOf, Known}
 use Rattle.table.proofs.Loading.{load-refuses, load-holds, load-statement, load-size, load-loaded}
 use Rattle.area.specs.inner.Area.{rows, Made}
-use Rattle.area.proofs.Rows.{rows-length}
+use Rattle.lister.specs.inner.Notes.{ReadWhole, Resumable}
+use Rattle.lister.specs.inner.Slots.{Slotted}
 use Rattle.list.specs.declared.Answer.{Answer}
 use Rattle.list.specs.declared.Answer.the-variants as answer
-use Rattle.list.specs.inner.Capped.{Capped, capped}
-use Rattle.list.specs.inner.Notes.{ReadWhole, NestsFrom, NotesFrom, Counted, Resumable}
-use Rattle.list.specs.Answers.{Listing, refused, listed, stateOf, listFor, listIn, listingOutcome, answerOutcome}
-use Rattle.list.specs.inner.Finding.{Finds}
-use Rattle.list.proofs.Capped.{capped-is}
+use Rattle.list.specs.declared.Prepared.the-variants as prepared
+use Rattle.list.specs.Answers.{Listing, refused, listed, listFor, listingOutcome, answerOutcome}
+use Rattle.list.specs.inner.Notes.{NestsFrom, NotesFrom, Counted}
+use Rattle.list.specs.inner.Preparing.{listAt, limited, Listable, Prepares}
+use Rattle.list.specs.inner.Finding.{reactionsHeld, answerFor, Finds}
 
 never : (w : ℕ) (ts : List Reaction) → refused w ≡ listed ts → ⊥
 never w ts e = let z : _≡_ {A = ℕ} 0 1 = cc in omega arith
 
--- ---- a statement
 pub refused-finds : (v : Listing) (w : ℕ) (a b : List ℕ) → v ≡ refused w → length b ≡ length a → Finds v (answer.Refused w) a b
 unfolding answerOutcome listingOutcome
 refused-finds v w a b e s = record { answer = ap listingOutcome (sym e); same = s; held = λ ts q. absurd (never w ts (sym e ∙ q)) }
 
-pub finds-deep : (p : Statement) (x : State) (E nest : ℕ) (a : List ℕ) → nest ≡ min 13 (nesting p) → 12 < nest → Finds (listFor p x E) (answer.Refused 14) a a
-unfolding listFor
-finds-deep p x E nest a e h =
-    refused-finds (listFor p x E) 14 a a (ap (λ (z : Bool). cond z (refused 14) (cond (crowded p x E) (refused 15) (listed (listing p x E)))) (lt-ltb 12 (nesting p) (omega arith))) refl
+pub finds-as : {v w : Listing} {r : Answer} {a b : List ℕ} → v ≡ w → Finds v r a b → Finds w r a b
+finds-as {v} {w} {r} {a} {b} e f = subst (λ (z : Listing). Finds z r a b) e f
 
-not-deep : (p : Statement) (x : State) (E nest : ℕ) → nest ≡ min 13 (nesting p) → nest ≤ 12 → listFor p x E ≡ cond (crowded p x E) (refused 15) (listed (listing p x E))
-unfolding listFor
-not-deep p x E nest e h = ap (λ (z : Bool). cond z (refused 14) (cond (crowded p x E) (refused 15) (listed (listing p x E)))) (le-ltb 12 (nesting p) (omega arith))
+-- ---- a statement, by what the lister left
+pub held-length : (a : List ℕ) (q n : ℕ) → length (reactions (rows a q n)) ≡ n
+unfolding rows reactions
+held-length a q zero = refl
+held-length a q (suc n) = ap suc (held-length a (q + 2) n)
 
-is-crowded : (c : Bool) (ts : List Reaction) → cond {A = Capped} c none (some ts) ≡ none → c ≡ true
+is-crowded : (c : Bool) (ts : List Reaction) → cond {A = Option (List Reaction)} c none (some ts) ≡ none → c ≡ true
 is-crowded true ts q = refl
 is-crowded false ts q = absurd (Option·none-ne-some ts (sym q))
 
-is-listed : (c : Bool) (ts us : List Reaction) → cond {A = Capped} c none (some ts) ≡ some us → (c ≡ false) × (ts ≡ us)
+is-listed : (c : Bool) (ts us : List Reaction) → cond {A = Option (List Reaction)} c none (some ts) ≡ some us → (c ≡ false) × (ts ≡ us)
 is-listed true ts us q = absurd (Option·none-ne-some us q)
 is-listed false ts us q = (refl, Option·some-injective ts us q)
 
-module _ (p : Statement) (x : State) (E nest : ℕ) (e : nest ≡ min 13 (nesting p)) (h : nest ≤ 12) {a b : List ℕ} {n : ℕ} (m : Made a b 0 0 (capped p x E) n) where
-  pub finds-crowded : 64 < n → Finds (listFor p x E) (answer.Refused 15) a b
-  finds-crowded k = refused-finds (listFor p x E) 15 a b (not-deep p x E nest e h ∙ ap (λ (z : Bool). cond z (refused 15) (listed (listing p x E))) (is-crowded (crowded p x E) (list p x E) (sym (capped-is p x E) ∙ m .over over))) (m .same)
-    where
-      over : n ≡ 65
-      over = go (decLe n 65)
-        where
-          go : Dec (n ≤ 65) → n ≡ 65
-          go (yes l) = omega arith
-          go (no l) = absurd (let z = m .cramped (omega arith) in omega arith)
+-- the lister's number, by its three meanings
+pub answer-listed : (n : ℕ) → n ≤ 64 → answer.Listed n ≡ answerFor n
+unfolding answerFor
+answer-listed n h = sym (ap (λ (z : Bool). cond z (cond (eqb n 67) (answer.Refused 6) (answer.Refused 15)) (answer.Listed n)) (le-ltb 64 n h))
 
-  pub finds-listed : n ≤ 64 → Finds (listFor p x E) (answer.Listed n) a b
-  unfolding answerOutcome listingOutcome listing
-  finds-listed k =
-      let l = is-listed (crowded p x E) (list p x E) (rows b 0 n) (sym (capped-is p x E) ∙ m .listed k) in
-      let v : listFor p x E ≡ listed (rows b 0 n) = not-deep p x E nest e h ∙ ap (λ (z : Bool). cond z (refused 15) (listed (listing p x E))) (l .0) ∙ ap listed (l .1) in
-      record { answer = ap (λ (k : ℕ). values (k ∷ [])) (sym (rows-length b 0 n)) ∙ ap listingOutcome (sym v); same = m .same; held = λ ts q. there ts (same-list ts (sym v ∙ q)) }
+above-64 : (n : ℕ) (b : Bool) → eqb n 67 ≡ b → 64 < n → cond b (answer.Refused 6) (answer.Refused 15) ≡ answerFor n
+unfolding answerFor
+above-64 n b e h =
+    ap (λ (z : Bool). cond z (answer.Refused 6) (answer.Refused 15)) (sym e)
+    ∙ sym (ap (λ (z : Bool). cond z (cond (eqb n 67) (answer.Refused 6) (answer.Refused 15)) (answer.Listed n)) (lt-ltb 64 n h))
+
+pub answer-refused : (n : ℕ) → n ≡ 67 → answer.Refused 6 ≡ answerFor n
+answer-refused n e = above-64 n true (ap (λ (z : ℕ). eqb z 67) e) (omega arith)
+
+pub answer-over : (n : ℕ) → 64 < n → (n ≡ 67 → ⊥) → answer.Refused 15 ≡ answerFor n
+answer-over n h f = above-64 n false (eqb-differ n 67 f) h
+
+module _ (M : ℕ) (p : Statement) (x : State) (E : ℕ) {a b : List ℕ} {n : ℕ} (m : Made a b 0 0 (cappedRows M p x E 0) n) where
+  -- where there is no list, it has over 64
+  is-over : 64 < n → n ≡ 65
+  is-over k = go (decLe n 65)
     where
-      same-list : (ts : List Reaction) → listed (rows b 0 n) ≡ listed ts → rows b 0 n ≡ ts
+      go : Dec (n ≤ 65) → n ≡ 65
+      go (yes l) = omega arith
+      go (no l) = absurd (let z = m .cramped (omega arith) in omega arith)
+
+  limited-crowded : n ≡ 65 → limited p x E ≡ refused 15
+  unfolding limited reactionsIn
+  limited-crowded e =
+      ap (λ (z : Bool). cond z (refused 15) (listed (listing p x E)))
+      (is-crowded (crowded p x E) (listing p x E) (sym (capped-rows-exact M p x E) ∙ ap reactionsIn (m .over e)))
+
+  limited-listed : n ≤ 64 → limited p x E ≡ listed (reactionsHeld b n)
+  unfolding limited reactionsIn
+  limited-listed k =
+      let l = is-listed (crowded p x E) (listing p x E) (reactionsHeld b n) (sym (capped-rows-exact M p x E) ∙ ap reactionsIn (m .listed k)) in
+      ap (λ (z : Bool). cond z (refused 15) (listed (listing p x E))) (l .0) ∙ ap listed (l .1)
+
+  finds-crowded : 64 < n → Finds (limited p x E) (answer.Refused 15) a b
+  finds-crowded k = refused-finds (limited p x E) 15 a b (limited-crowded (is-over k)) (m .same)
+
+  finds-listed : n ≤ 64 → Finds (limited p x E) (answer.Listed n) a b
+  unfolding answerOutcome listingOutcome
+  finds-listed k =
+      let v = limited-listed k in
+      record {
+        answer = ap (λ (k : ℕ). values (k ∷ [])) (sym (held-length b 0 n)) ∙ ap listingOutcome (sym v);
+        same = m .same;
+        held = λ ts q. there ts (same-list ts (sym v ∙ q));
+      }
+    where
+      same-list : (ts : List Reaction) → listed (reactionsHeld b n) ≡ listed ts → reactionsHeld b n ≡ ts
       same-list ts q = cc
 
-      there : (ts : List Reaction) → rows b 0 n ≡ ts → (rows b 0 (length ts) ≡ ts) × (length ts ≤ 64)
+      there : (ts : List Reaction) → reactionsHeld b n ≡ ts → (reactionsHeld b (length ts) ≡ ts) × (length ts ≤ 64)
       there ts q =
-          let long : length ts ≡ n = ap length (sym q) ∙ rows-length b 0 n in
-          (ap (rows b 0) long ∙ q, omega arith)
+          let long : length ts ≡ n = ap length (sym q) ∙ held-length b 0 n in
+          (ap (reactionsHeld b) long ∙ q, omega arith)
 
-  -- no list was refused
-  pub never-refused : n ≡ 67 → ⊥
-  never-refused k = let z = m .cramped (omega arith) in omega arith
+  pub finds-answer : {r : Answer} → r ≡ answerFor n → Finds (limited p x E) r a b
+  finds-answer {r} e = subst (λ (z : Answer). Finds (limited p x E) z a b) (sym e) (go (decLe n 64))
+    where
+      go : Dec (n ≤ 64) → Finds (limited p x E) (answerFor n) a b
+      go (yes k) = subst (λ (z : Answer). Finds (limited p x E) z a b) (answer-listed n k) (finds-listed k)
+      go (no k) =
+          let e = is-over (omega arith) in
+          subst (λ (z : Answer). Finds (limited p x E) z a b) (answer-over n (omega arith) (λ f. omega arith)) (finds-crowded (omega arith))
 
 -- ---- marked nodes can be listed
 module _ {n : ℕ} {xs ends nests labels : List ℕ} (s : Counted xs n) (c : NotesFrom 0 n xs ends nests labels) where
@@ -92,7 +136,7 @@ module _ {n : ℕ} {xs ends nests labels : List ℕ} (s : Counted xs n) (c : Not
       let x = s .loaded .next-is in
       record { shallow = s .loaded .shallow; full = omega arith; within = omega arith }
 
-  pub marked-resumable : Resumable xs ends labels 0
+  marked-resumable : Resumable xs ends labels 0
   marked-resumable =
       let e = s .count in
       record {
@@ -107,25 +151,69 @@ module _ {n : ℕ} {xs ends nests labels : List ℕ} (s : Counted xs n) (c : Not
         right-labels = c .right-labels;
       }
 
+  pub marked-listable : (M : ℕ) → Slotted M 0 → Listable xs ends labels M
+  marked-listable M h = record { noted = marked-resumable; slots = h }
+
   pub marked-nest : (nest : ℕ) → nest ≡ getD nests 0 0 → nest ≡ min 13 (nesting (statementOf xs))
   unfolding NestsFrom
   marked-nest nest e = e ∙ c .right-nests 0 (omega arith) root-whole
 
+-- ---- refusal 14
+module _ (p : Statement) (nest : ℕ) (e : nest ≡ min 13 (nesting p)) where
+  for-deep : 12 < nest → (x : State) (E : ℕ) → listFor p x E ≡ refused 14
+  unfolding listFor
+  for-deep h x E = ap (λ (z : Bool). cond z (refused 14) (cond (crowded p x E) (refused 15) (listed (listing p x E)))) (lt-ltb 12 (nesting p) (omega arith))
+
+  for-limited : nest ≤ 12 → (x : State) (E : ℕ) → listFor p x E ≡ limited p x E
+  unfolding listFor limited
+  for-limited h x E = ap (λ (z : Bool). cond z (refused 14) (cond (crowded p x E) (refused 15) (listed (listing p x E)))) (le-ltb 12 (nesting p) (omega arith))
+
 -- ---- a table, by the answer of check
+module _ {T : Table} {xs ends labels : List ℕ} where
+  prepares-refused : (w : ℕ) → ((x : State) (E : ℕ) → listAt T x E ≡ refused w) → Prepares T (prepared.Refused w) xs ends labels
+  prepares-refused w f = record {
+    refuses = λ u e x E. f x E ∙ ap refused (same u e);
+    accepts = λ M e. absurd (other M e);
+  }
+    where
+      same : (u : ℕ) → prepared.Refused w ≡ prepared.Refused u → w ≡ u
+      same u e = cc
+
+      other : (M : ℕ) → prepared.Refused w ≡ prepared.Accepted M → ⊥
+      other M e = let z : _≡_ {A = ℕ} 0 1 = cc in omega arith
+
+  prepares-accepted : (M : ℕ) → Listable xs ends labels M → ((x : State) (E : ℕ) → listAt T x E ≡ limited (statementOf xs) x E) → Prepares T (prepared.Accepted M) xs ends labels
+  prepares-accepted M l f = record {
+    refuses = λ w e. absurd (other w e);
+    accepts = λ K e. (subst (Listable xs ends labels) (same K e) l, f);
+  }
+    where
+      same : (K : ℕ) → prepared.Accepted M ≡ prepared.Accepted K → M ≡ K
+      same K e = cc
+
+      other : (w : ℕ) → prepared.Accepted M ≡ prepared.Refused w → ⊥
+      other w e = let z : _≡_ {A = ℕ} 0 1 = cc in omega arith
+
 module _ (t old new : List ℕ) (c : Checked) (h : (checkedOutcome c ≡ checkOf t) × (new ≡ loadedOf t old)) where
-  pub finds-refused : (E mark X w why : ℕ) (a : List ℕ) → c ≡ checked.Refused w → why ≡ numberOf (checkedOutcome c) → Finds (listIn (tableOf t) E mark X) (answer.Refused why) a a
-  unfolding listIn
-  finds-refused E mark X w why a e f =
-      refused-finds (listIn (tableOf t) E mark X) why a a (ap (λ (T : Table). listIn T E mark X) (load-refuses t old new c h w why e f)) refl
+  pub prepared-checked : (w why : ℕ) {xs ends labels : List ℕ} → c ≡ checked.Refused w → why ≡ numberOf (checkedOutcome c)
+      → Prepares (tableOf t) (prepared.Refused why) xs ends labels
+  unfolding listAt
+  prepared-checked w why e f = prepares-refused why (λ x E. ap (λ (T : Table). listAt T x E) (load-refuses t old new c h w why e f))
 
   module _ (n : ℕ) (e : c ≡ checked.Accepted n) where
     pub loaded-counted : length old ≡ 1024 → Known old → Counted new n
     loaded-counted l k = record { loaded = load-loaded t old new c h n e l k; count = load-size t old new c h n e }
 
-    pub finds-accepted : (E mark X : ℕ) {r : Answer} {a b : List ℕ} → Finds (listFor (statementOf new) (stateOf mark X) E) r a b → Finds (listIn (tableOf t) E mark X) r a b
-    unfolding listIn
-    finds-accepted E mark X {r} {a} {b} f =
-        let is : listFor (statementOf new) (stateOf mark X) E ≡ listIn (tableOf t) E mark X =
-        ap (λ (p : Statement). listFor p (stateOf mark X) E) (load-statement t old new c h n e)
-        ∙ sym (ap (λ (T : Table). listIn T E mark X) (load-holds t old new c h n e .1)) in
-        subst (λ (v : Listing). Finds v r a b) is f
+    at-loaded : (x : State) (E : ℕ) → listAt (tableOf t) x E ≡ listFor (statementOf new) x E
+    unfolding listAt
+    at-loaded x E =
+        ap (λ (T : Table). listAt T x E) (load-holds t old new c h n e .1)
+        ∙ sym (ap (λ (p : Statement). listFor p x E) (load-statement t old new c h n e))
+
+    module _ {ends nests labels : List ℕ} (s : Counted new n) (d : NotesFrom 0 n new ends nests labels) (nest : ℕ) (g : nest ≡ getD nests 0 0) where
+      pub prepared-deep : 12 < nest → Prepares (tableOf t) (prepared.Refused 14) new ends labels
+      prepared-deep k = prepares-refused 14 (λ x E. at-loaded x E ∙ for-deep (statementOf new) nest (marked-nest s d nest g) k x E)
+
+      pub prepared-listable : nest ≤ 12 → (M : ℕ) → Slotted M 0 → Prepares (tableOf t) (prepared.Accepted M) new ends labels
+      prepared-listable k M q =
+          prepares-accepted M (marked-listable s d M q) (λ x E. at-loaded x E ∙ for-limited (statementOf new) nest (marked-nest s d nest g) k x E)

@@ -15,8 +15,9 @@ use Rattle.esterel.specs.Listing.{nesting}
 use Rattle.table.specs.Reading.{kindOfNode, operandOf}
 use Rattle.table.specs.inner.Places.{Placed, placed}
 use Rattle.sets.proofs.Members.{only-fits}
-use Rattle.list.specs.inner.Notes.{endIn, placeAt, partAt, ReadWhole, EndsFrom, NestsFrom, PausesFrom, nestedOnce, NotesFrom, Room, NotesPut, NotedNone, NotedBody, NotedSignal, NotedTwo}
-use Rattle.list.proofs.Nodes.{One, Two, before-end, is-nothing, is-pause, is-gotopause, is-emit, is-exit, is-signal, is-present, is-sequence, is-parallel, is-loop, is-try}
+use Rattle.lister.specs.inner.Notes.{placeAt, partAt, ReadWhole, EndsFrom, PausesFrom}
+use Rattle.list.specs.inner.Notes.{endIn, NestsFrom, nestedOnce, NotesFrom, Room, NotesPut, NotedNone, NotedBody, NotedSignal, NotedTwo}
+use Rattle.lister.proofs.Nodes.{One, Two, before-end, is-nothing, is-pause, is-gotopause, is-emit, is-exit, is-signal, is-present, is-sequence, is-parallel, is-loop, is-try}
 
 pub end-there : (ends : List ℕ) (at : ℕ) → at < length ends → endIn ends at ≡ getD ends at 0
 unfolding endIn

@@ -1,5 +1,4 @@
 -- What inner functions ask of and leave to each other.
-pub mod Capped
 pub mod Notes
-pub mod Joins
+pub mod Preparing
 pub mod Finding

@@ -1,21 +1,25 @@
 // List: the reactions of a state of a table.
 //
 // The cost: the nodes are cut out of the bytes and checked once, and one pass notes of each statement where it ends, its
-// pauses and its nesting. The lister then visits a statement once for each of its lists that is needed, so a body inside n
-// signal statements at most 2 to the n times; a part that cannot react in the state is not visited. A reaction is put into
-// its list in at most 64 steps. The stack: 100,104 bytes at depth 60, measured by bench/stack.c, of which 63,520 are the
-// largest area, made ready only where the small one does not suffice.
+// pauses and its nesting. The lister then visits a statement once for each of its lists that is needed. The body of a signal
+// statement is usually listed once, with the signal unknown, and again with it present and with it absent only where that gives
+// up; a part that cannot react in the state is not visited.
 mod finding;
 mod marking;
-mod reacting;
+mod preparing;
 mod writing;
 
+pub use finding::reactions;
+pub use preparing::prepare;
+use table::MOST_NODES;
 ghost use mathlib.Core.Path.{_≡_};
 ghost use Prim.Native.Nat.{_≤_};
 ghost use lib.ListN.{length};
 ghost use Rattle.table.specs.Outcomes.{numberOf};
-ghost use Rattle.list.specs.Answers.{answerOutcome};
+ghost use Rattle.list.specs.Answers.{stateOf, answerOutcome};
 ghost use Rattle.list.specs.Buffers.{Lists, ListsBytes};
+ghost use Rattle.list.specs.inner.Preparing.{stateIn, NodeRoom};
+ghost use Rattle.list.specs.inner.Finding.{ListsIn, ListsBytesIn};
 
 // The words of the area that is tried first.
 const SMALL: usize = 512;
@@ -24,6 +28,19 @@ const SMALL: usize = 512;
 pub enum Answer {
     Refused(u8),
     Listed(u32),
+}
+
+// A state of a program: the start, or resumed with a label set.
+pub enum State {
+    Start,
+    Resumed(u64),
+}
+
+// What was prepared of a table: the number of the refusal, or the signals that may be unknown, where the nodes and what is noted
+// of them stand in lent rooms.
+pub enum Prepared {
+    Refused(u8),
+    Accepted(u64),
 }
 
 // Document 01's number for an answer of list: the refusal, 0 where the count is given.
@@ -36,20 +53,34 @@ pub fn refusal(answer: Answer) -> u8
     }
 }
 
-fn list_through(
+// The state of a mark and a label set.
+pub fn state_of(mark: u32, labels: u64) -> State
+    ensures { λ r. ⌜ stateIn r ≡ stateOf mark labels ⌝ }
+{
+    if mark == 0 {
+        return State::Start;
+    }
+    State::Resumed(labels)
+}
+
+// List, with room lent for the nodes, what is noted of them, and rows.
+fn list_with(
     table: &[u8],
     assumed: u32,
-    mark: u32,
-    labels: u64,
+    state: State,
     o: &mut [u32],
     k: &mut [u8],
     l: &mut [u64],
+    nodes: &mut [u16; MOST_NODES],
+    ends: &mut [u16; MOST_NODES],
+    nests: &mut [u8; MOST_NODES],
+    pauses: &mut [u64; MOST_NODES],
     area: &mut [u64],
 ) -> Answer
-    requires { ⌜ 128 ≤ length (now area) ⌝ }
-    ensures { λ r. ⌜ Lists (now (table .entry)) assumed mark labels r (now (o .entry)) (now (o .exit)) (now (k .entry)) (now (k .exit)) (now (l .entry)) (now (l .exit)) ⌝ }
+    requires { ⌜ (128 ≤ length (now area)) × NodeRoom (now nodes) ⌝ }
+    ensures { λ r. ⌜ ListsIn (now (table .entry)) assumed (stateIn state) r (now (o .entry)) (now (o .exit)) (now (k .entry)) (now (k .exit)) (now (l .entry)) (now (l .exit)) ⌝ }
 {
-    let answer = finding::find(table, assumed, mark, labels, area);
+    let answer = finding::find(table, assumed, state, nodes, ends, nests, pauses, area);
     let Answer::Listed(n) = answer else {
         return answer;
     };
@@ -68,24 +99,44 @@ pub fn list(
 ) -> Answer
     ensures { λ r. ⌜ Lists (now (table .entry)) assumed mark labels r (now (o .entry)) (now (o .exit)) (now (k .entry)) (now (k .exit)) (now (l .entry)) (now (l .exit)) ⌝ }
 {
+    let mut nodes = [0u16; MOST_NODES];
+    let mut ends = [0u16; MOST_NODES];
+    let mut nests = [0u8; MOST_NODES];
+    let mut pauses = [0u64; MOST_NODES];
     let mut area = [0u64; SMALL];
-    list_through(table, assumed, mark, labels, o, k, l, &mut area)
+    let state = state_of(mark, labels);
+    list_with(
+        table,
+        assumed,
+        state,
+        o,
+        k,
+        l,
+        &mut nodes,
+        &mut ends,
+        &mut nests,
+        &mut pauses,
+        &mut area,
+    )
 }
 
-fn list_bytes_through(
+fn list_bytes_with(
     table: &[u8],
     assumed: u32,
-    mark: u32,
-    labels: u64,
+    state: State,
     o: &mut [u8],
     k: &mut [u8],
     l: &mut [u8],
+    nodes: &mut [u16; MOST_NODES],
+    ends: &mut [u16; MOST_NODES],
+    nests: &mut [u8; MOST_NODES],
+    pauses: &mut [u64; MOST_NODES],
     area: &mut [u64],
 ) -> Answer
-    requires { ⌜ 128 ≤ length (now area) ⌝ }
-    ensures { λ r. ⌜ ListsBytes (now (table .entry)) assumed mark labels r (now (o .entry)) (now (o .exit)) (now (k .entry)) (now (k .exit)) (now (l .entry)) (now (l .exit)) ⌝ }
+    requires { ⌜ (128 ≤ length (now area)) × NodeRoom (now nodes) ⌝ }
+    ensures { λ r. ⌜ ListsBytesIn (now (table .entry)) assumed (stateIn state) r (now (o .entry)) (now (o .exit)) (now (k .entry)) (now (k .exit)) (now (l .entry)) (now (l .exit)) ⌝ }
 {
-    let answer = finding::find(table, assumed, mark, labels, area);
+    let answer = finding::find(table, assumed, state, nodes, ends, nests, pauses, area);
     let Answer::Listed(n) = answer else {
         return answer;
     };
@@ -104,6 +155,23 @@ pub fn list_bytes(
 ) -> Answer
     ensures { λ r. ⌜ ListsBytes (now (table .entry)) assumed mark labels r (now (o .entry)) (now (o .exit)) (now (k .entry)) (now (k .exit)) (now (l .entry)) (now (l .exit)) ⌝ }
 {
+    let mut nodes = [0u16; MOST_NODES];
+    let mut ends = [0u16; MOST_NODES];
+    let mut nests = [0u8; MOST_NODES];
+    let mut pauses = [0u64; MOST_NODES];
     let mut area = [0u64; SMALL];
-    list_bytes_through(table, assumed, mark, labels, o, k, l, &mut area)
+    let state = state_of(mark, labels);
+    list_bytes_with(
+        table,
+        assumed,
+        state,
+        o,
+        k,
+        l,
+        &mut nodes,
+        &mut ends,
+        &mut nests,
+        &mut pauses,
+        &mut area,
+    )
 }

@@ -4,13 +4,12 @@ ghost use mathlib.Core.Path.{_≡_};
 ghost use mathlib.Core.List.{map};
 ghost use Prim.Native.Nat.{_*_, _≤_};
 ghost use lib.ListN.{length};
-ghost use Rattle.area.specs.inner.Area.{rows};
 ghost use Rattle.list.specs.Buffers.{emittedIn, codeIn, reachedIn, front, spread};
-ghost use Rattle.list.specs.inner.Finding.{Small, DeliversRows, DeliversBytes};
+ghost use Rattle.list.specs.inner.Finding.{reactionsHeld, DeliversRows, DeliversBytes};
 
 fn fill_signals(area: &[u64], n: usize, o: &mut [u32])
-    requires { ⌜ (2 * n ≤ length (now area)) × (n ≤ length (now o)) × Small n (now area) ⌝ }
-    ensures { λ _. ⌜ now (o .exit) ≡ front (map emittedIn (rows (now (area .entry)) 0 n)) (now (o .entry)) ⌝ }
+    requires { ⌜ (2 * n ≤ length (now area)) × (n ≤ length (now o)) ⌝ }
+    ensures { λ _. ⌜ now (o .exit) ≡ front (map emittedIn (reactionsHeld (now (area .entry)) n)) (now (o .entry)) ⌝ }
 {
     let mut i = 0;
     while i < n {
@@ -21,7 +20,7 @@ fn fill_signals(area: &[u64], n: usize, o: &mut [u32])
 
 fn fill_codes(area: &[u64], n: usize, k: &mut [u8])
     requires { ⌜ (2 * n ≤ length (now area)) × (n ≤ length (now k)) ⌝ }
-    ensures { λ _. ⌜ now (k .exit) ≡ front (map codeIn (rows (now (area .entry)) 0 n)) (now (k .entry)) ⌝ }
+    ensures { λ _. ⌜ now (k .exit) ≡ front (map codeIn (reactionsHeld (now (area .entry)) n)) (now (k .entry)) ⌝ }
 {
     let mut i = 0;
     while i < n {
@@ -33,7 +32,7 @@ fn fill_codes(area: &[u64], n: usize, k: &mut [u8])
 
 fn fill_labels(area: &[u64], n: usize, l: &mut [u64])
     requires { ⌜ (2 * n ≤ length (now area)) × (n ≤ length (now l)) ⌝ }
-    ensures { λ _. ⌜ now (l .exit) ≡ front (map reachedIn (rows (now (area .entry)) 0 n)) (now (l .entry)) ⌝ }
+    ensures { λ _. ⌜ now (l .exit) ≡ front (map reachedIn (reactionsHeld (now (area .entry)) n)) (now (l .entry)) ⌝ }
 {
     let mut i = 0;
     while i < n {
@@ -44,7 +43,7 @@ fn fill_labels(area: &[u64], n: usize, l: &mut [u64])
 
 // The n reactions of an area as numbers, or refusal 16.
 pub fn deliver(area: &[u64], n: u32, o: &mut [u32], k: &mut [u8], l: &mut [u64]) -> Answer
-    requires { ⌜ (2 * n ≤ length (now area)) × Small n (now area) ⌝ }
+    requires { ⌜ 2 * n ≤ length (now area) ⌝ }
     ensures { λ r. ⌜ DeliversRows (now (area .entry)) n r (now (o .entry)) (now (o .exit)) (now (k .entry)) (now (k .exit)) (now (l .entry)) (now (l .exit)) ⌝ }
 {
     let count = n as usize;
@@ -65,7 +64,7 @@ pub fn deliver(area: &[u64], n: u32, o: &mut [u32], k: &mut [u8], l: &mut [u64])
 
 fn spell_signals(area: &[u64], n: usize, o: &mut [u8])
     requires { ⌜ (2 * n ≤ length (now area)) × (4 * n ≤ length (now o)) ⌝ }
-    ensures { λ _. ⌜ now (o .exit) ≡ front (spread 4 (map emittedIn (rows (now (area .entry)) 0 n))) (now (o .entry)) ⌝ }
+    ensures { λ _. ⌜ now (o .exit) ≡ front (spread 4 (map emittedIn (reactionsHeld (now (area .entry)) n))) (now (o .entry)) ⌝ }
 {
     let mut i = 0;
     while i < n {
@@ -76,7 +75,7 @@ fn spell_signals(area: &[u64], n: usize, o: &mut [u8])
 
 fn spell_labels(area: &[u64], n: usize, l: &mut [u8])
     requires { ⌜ (2 * n ≤ length (now area)) × (8 * n ≤ length (now l)) ⌝ }
-    ensures { λ _. ⌜ now (l .exit) ≡ front (spread 8 (map reachedIn (rows (now (area .entry)) 0 n))) (now (l .entry)) ⌝ }
+    ensures { λ _. ⌜ now (l .exit) ≡ front (spread 8 (map reachedIn (reactionsHeld (now (area .entry)) n))) (now (l .entry)) ⌝ }
 {
     let mut i = 0;
     while i < n {

@@ -19,7 +19,11 @@ fn place_of(code: Code) -> u16
     requires { ⌜ code .0 ≢ 1 ⌝ }
     ensures { λ r. ⌜ r ≡ placeOf (code .0) ⌝ }
 {
-    if code.0 == esterel::ENDED { 0 } else { code.0 - 1 }
+    if code.0 == esterel::ENDED {
+        0
+    } else {
+        code.0 - 1
+    }
 }
 
 pub fn just_ended() -> CodeSet

@@ -1,4 +1,4 @@
--- The invariant: what the reactions from the j-th on give is still to be put in.
+-- The invariant: what the rows from the j-th on give is still to be put in.
 use Prim.Native.Nat.{_-_, _≤_}
 use Rattle.area.proofs.Made.{Filling}
 use Rattle.area.proofs.Products.{joins, joins-goal, joins-start, joins-over, joins-step, joins-end}
@@ -40,21 +40,19 @@ slice-read-m c = omega arith
 join-requires : tie.Need-join-requires Inv-loop μ-loop
 join-requires c κs = tt
 
-put-requires : tie.Need-put-requires Inv-loop μ-loop
-put-requires c κs = let f = c .before .before .before .before .before .loop .inv .1 in (f .small, omega (arith, f .same, f .small), f .rising)
+put-unless-clash-requires : tie.Need-put-unless-clash-requires Inv-loop μ-loop
+put-unless-clash-requires c κs = let f = c .before .before .before .before .before .loop .inv .1 in (f .small, omega (arith, f .same, f .small), f .rising)
 
 same-length : tie.Need-same-length Inv-loop μ-loop
 same-length c = omega arith
 
 returns : tie.Need-returns Inv-loop μ-loop
 returns c =
-    let at-put = c .before .before .before in
-    let at-join = at-put .before .before in
-    let at-loop-test = at-join .before .before .before in
-    let at-loop = at-loop-test .before in
-    let s = at-loop .before .before in
-    joins-over (s .args .how) (s .args .w) (s .args .l) (s .args .area .now) (s .args .mid) (s .args .n2) (s .args .top) (s .args .n) (at-loop .loop .area) _ (at-loop .loop .j) (at-loop .loop .inv .1) (s .pre .1)
-    (at-loop-test .loop-test .taken) _ (at-join .join .ensures) _ _ (at-put .put .ensures .made) (c .if1 .taken)
+    let u = c .before .before .before .before .before .before in
+    let s = u .before .before .before .before .before in
+    joins-over (s .args .how) (s .args .w) (s .args .l) (s .args .area .now) (s .args .mid) (s .args .n2) (s .args .top) (s .args .n) (u .before .before .before .loop .area) _
+    (u .before .before .before .loop .j) (u .before .before .before .loop .inv .1) (s .pre .1) (u .before .before .loop-test .taken) _
+    (c .before .before .before .before .before .join .ensures) _ _ (c .before .before .before .put-unless-clash .ensures .made) (c .if1 .taken)
 
 add-j : tie.Need-add-j Inv-loop μ-loop
 add-j c = omega arith
@@ -64,22 +62,22 @@ loop-less c = omega arith
 
 loop-again : tie.Need-loop-again Inv-loop μ-loop
 loop-again c =
-    let at-put = c .before .before .before in
-    let at-join = at-put .before .before in
-    let at-loop-test = at-join .before .before .before in
-    let at-loop = at-loop-test .before in
-    let s = at-loop .before .before in (
+    let u = c .before .before .before .before .before .before in
+    let s = u .before .before .before .before .before in (
       omega arith,
-      joins-step (s .args .how) (s .args .w) (s .args .l) (s .args .area .now) (s .args .mid) (s .args .n2) (s .args .top) (s .args .n) (at-loop .loop .area) _ (at-loop .loop .j) (at-loop .loop .inv .1) (s .pre .1)
-          (at-loop-test .loop-test .taken) _ (at-join .join .ensures) _ _ (at-put .put .ensures .made) (c .if1 .left),
+      joins-step (s .args .how) (s .args .w) (s .args .l) (s .args .area .now) (s .args .mid) (s .args .n2) (s .args .top) (s .args .n) (u .before .before .before .loop .area) _
+          (u .before .before .before .loop .j) (u .before .before .before .loop .inv .1) (s .pre .1) (u .before .before .loop-test .taken) _
+          (c .before .before .before .before .before .join .ensures) _ _ (c .before .before .before .put-unless-clash .ensures .made) (c .if1 .left),
     )
 
 same-length-2 : tie.Need-same-length-2 Inv-loop μ-loop
 same-length-2 c = omega arith
 
 returns-2 : tie.Need-returns-2 Inv-loop μ-loop
-returns-2 c = let s = c .before .before .before in
-    joins-end (s .args .how) (s .args .w) (s .args .l) (s .args .area .now) (s .args .mid) (s .args .n2) (s .args .top) (s .args .n) (c .before .loop .area) _ (c .before .loop .j) (c .before .loop .inv .1) (c .loop-test .left)
+returns-2 c =
+    let s = c .before .before .before in
+    joins-end (s .args .how) (s .args .w) (s .args .l) (s .args .area .now) (s .args .mid) (s .args .n2) (s .args .top) (s .args .n) (c .before .loop .area) _ (c .before .loop .j)
+    (c .before .loop .inv .1) (c .loop-test .left)
 
 pub add-joined-spec : {M : Type 1} → statement M
 add-joined-spec =
@@ -96,7 +94,7 @@ add-joined-spec =
     mul-m
     slice-read-m
     join-requires
-    put-requires
+    put-unless-clash-requires
     same-length
     returns
     add-j

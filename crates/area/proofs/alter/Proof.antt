@@ -1,4 +1,4 @@
--- The invariant: i reactions are read, and what became of them stands at base.
+-- The invariant: i rows are read, and what became of them stands at base.
 use Prim.Native.Nat.{_-_}
 use mathlib.Core.Path.{refl}
 use Rattle.area.proofs.Changes.{Altering, altering-start, altering-step, altering-end}
@@ -16,7 +16,9 @@ returns : tie.Need-returns Inv-loop μ-loop
 returns c = record { small = λ h. absurd (omega arith); large = λ h. (refl, refl) }
 
 loop-holds : tie.Need-loop-holds Inv-loop μ-loop
-loop-holds c = altering-start (c .before .before .args .change) (c .before .before .args .area .now) (c .before .before .args .base) (c .before .before .args .n) (let h = c .before .before .pre (c .if1 .left) in omega arith)
+loop-holds c =
+    altering-start (c .before .before .args .change) (c .before .before .args .area .now) (c .before .before .args .base) (c .before .before .args .n)
+    (let h = c .before .before .pre (c .if1 .left) in omega arith)
 
 mul-q : tie.Need-mul-q Inv-loop μ-loop
 mul-q c = omega arith
@@ -41,10 +43,10 @@ slice-read-l c = omega (arith, c .before .before .before .before .before .before
 
 alter-one-requires : tie.Need-alter-one-requires Inv-loop μ-loop
 alter-one-requires c κs =
-    let at-loop = c .before .before .before .before in
-    let at-if1 = at-loop .before in
-    let s = at-if1 .before .before in
-    let t = at-loop .loop .inv in let h = s .pre (at-if1 .if1 .left) in (omega (arith, t .behind, at-if1 .if1 .left), omega (arith, t .behind, t .filling .same), t .filling .rising)
+    let u = c .before .before .before .before .before .before in
+    let t = c .before .before .before .before .loop .inv in
+    let h = u .before .pre (c .before .before .before .before .before .if1 .left) in
+    (omega (arith, t .behind, c .before .before .before .before .before .if1 .left), omega (arith, t .behind, t .filling .same), t .filling .rising)
 
 add-i : tie.Need-add-i Inv-loop μ-loop
 add-i c = omega arith
@@ -54,18 +56,17 @@ loop-less c = omega arith
 
 loop-again : tie.Need-loop-again Inv-loop μ-loop
 loop-again c =
-    let at-alter-one = c .before .before in
-    let at-loop-test = at-alter-one .before .before .before .before in
-    let at-loop = at-loop-test .before in
-    let at-if1 = at-loop .before in
-    let s = at-if1 .before .before in
-    altering-step _ (s .args .area .now) (at-loop .loop .area) _ _ _ _ (at-loop .loop .inv) _ _ (at-loop-test .loop-test .taken) (at-if1 .if1 .left) (at-alter-one .alter-one .ensures)
+    let u = c .before .before .before .before .before .before in
+    altering-step _ (u .before .before .before .before .args .area .now) (u .before .loop .area) _ _ _ _ (u .before .loop .inv) _ _ (u .loop-test .taken) (u .before .before .if1 .left)
+    (c .before .before .alter-one .ensures)
 
 same-length : tie.Need-same-length Inv-loop μ-loop
 same-length c = omega arith
 
 returns-2 : tie.Need-returns-2 Inv-loop μ-loop
-returns-2 c = record { small = λ h. (altering-end _ (c .before .before .before .before .args .area .now) (c .before .loop .area) _ _ _ _ (c .before .loop .inv) (c .loop-test .left), omega arith); large = λ h. absurd (omega arith) }
+returns-2 c =
+    record
+    { small = λ h. (altering-end _ (c .before .before .before .before .args .area .now) (c .before .loop .area) _ _ _ _ (c .before .loop .inv) (c .loop-test .left), omega arith); large = λ h. absurd (omega arith) }
 
 pub alter-spec : {M : Type 1} → statement M
 alter-spec =

@@ -1,9 +1,9 @@
--- A reaction goes, or stays changed: case by case.
+-- A row goes, or stays changed: case by case.
 use mathlib.Core.Path.{sym, _∙_}
 use borrow.Author.Tests.{not-true, not-false}
 use Rattle.sets.specs.Set.{only}
 use Rattle.sets.proofs.Words.{minus-below}
-use Rattle.area.proofs.Changes.{through-below, put-none, put-one, hide-none, hide-one, going-none, going-one, caught-one}
+use Rattle.area.proofs.Changes.{through-below, put-none, put-as, hide-none, hide-one, local-is, given-is, going-none, going-one, caught-one}
 use native.Mathlib.Omega.{arith}
 use borrow.Author.Needs.{needs}
 use Rattle.area.proofs.alter_one.Statement.{statement}
@@ -20,13 +20,10 @@ contains-requires c κs = search needs
 
 returns : tie.Need-returns
 returns c =
-    let at-contains = c .before in
-    let at-emitted-in = at-contains .before in
-    let at-change = at-emitted-in .before .before in
-    let s = at-change .before .before .before in
-    let a = s .args in let p = s .pre in
-    put-none (a .area .now) (a .base) (a .m) _ (p .0) (p .1) (p .2) (hide-none (a .change) (a .w) (a .l) _ _ (at-change .change .given .1) (at-emitted-in .emitted-in .ensures)
-    (sym (at-contains .contains .ensures) ∙ not-true _ (c .if1 .taken)))
+    let s = c .before .before .before .before .before .before in
+    let a = s .before .args in
+    put-none (a .area .now) (a .base) (a .m) _ (s .before .pre .0) (s .before .pre .1) (s .before .pre .2) (hide-none (a .change) (a .w) (a .l) _ _
+    (c .before .before .before .before .change .given .1) (c .before .before .emitted-in .ensures) (sym (c .before .contains .ensures) ∙ not-true _ (c .if1 .taken)))
 
 without-requires : tie.Need-without-requires
 without-requires c κs = search needs
@@ -34,18 +31,43 @@ without-requires c κs = search needs
 code-in-requires : tie.Need-code-in-requires
 code-in-requires c κs = search needs
 
+condition-in-requires : tie.Need-condition-in-requires
+condition-in-requires c κs = search needs
+
 word-of-requires : tie.Need-word-of-requires
 word-of-requires c κs =
-    let at-without = c .before .before in
-    let at-emitted-in = at-without .before .before .before in
-    let at-change = at-emitted-in .before .before in (
-      omega (arith, at-without .without .ensures, minus-below 56 (at-emitted-in .emitted-in .result) (only (at-change .change .given .0 .0)) (omega (arith, at-emitted-in .emitted-in .ensures))),
-      omega
-          (arith, c .code-in .ensures),
+    let s = c .before .before .before .before .before .before in (
+      omega (arith, c .before .before .before .without .ensures, minus-below 32 (s .emitted-in .result) (only (s .before .before .change .given .0 .0)) (omega (arith, s .emitted-in .ensures))),
+      omega (arith, c .before .code-in .ensures),
+      omega (arith, c .condition-in .ensures),
     )
 
 put-requires : tie.Need-put-requires
 put-requires c κs = search needs
+
+enum-known-change-2 : tie.Need-enum-known-change-2
+enum-known-change-2 c = search needs
+
+alter-local-requires : tie.Need-alter-local-requires
+alter-local-requires c κs = search needs
+
+enum-known-change-3 : tie.Need-enum-known-change-3
+enum-known-change-3 c = search needs
+
+condition-in-requires-2 : tie.Need-condition-in-requires-2
+condition-in-requires-2 c κs = search needs
+
+emitted-in-requires-2 : tie.Need-emitted-in-requires-2
+emitted-in-requires-2 c κs = search needs
+
+code-in-requires-2 : tie.Need-code-in-requires-2
+code-in-requires-2 c κs = search needs
+
+word-of-requires-2 : tie.Need-word-of-requires-2
+word-of-requires-2 c κs = (omega (arith, c .before .emitted-in2 .ensures), omega (arith, c .code-in2 .ensures), omega (arith, c .before .before .before .condition-in2 .ensures))
+
+put-unless-clash-requires : tie.Need-put-unless-clash-requires
+put-unless-clash-requires c κs = search needs
 
 enum-told : tie.Need-enum-told
 enum-told c = search needs
@@ -54,8 +76,10 @@ ends-requires : tie.Need-ends-requires
 ends-requires c κs = search needs
 
 returns-2 : tie.Need-returns-2
-returns-2 c = let a = c .before .before .before .before .before .args in let p = c .before .before .before .before .before .pre in
-    put-none (a .area .now) (a .base) (a .m) _ (p .0) (p .1) (p .2) (going-none (a .change) (a .w) (a .l) (c .before .before .enum-told .given .1) (c .before .ends .ensures .0 (c .if2 .taken)))
+returns-2 c =
+    let a = c .before .before .before .before .before .args in
+    put-none (a .area .now) (a .base) (a .m) _ (c .before .before .before .before .before .pre .0) (c .before .before .before .before .before .pre .1)
+    (c .before .before .before .before .before .pre .2) (going-none (a .change) (a .w) (a .l) (c .before .before .enum-told .given .1) (c .before .ends .ensures .0 (c .if2 .taken)))
 
 put-requires-2 : tie.Need-put-requires-2
 put-requires-2 c κs = search needs
@@ -63,20 +87,25 @@ put-requires-2 c κs = search needs
 enum-told-2 : tie.Need-enum-told-2
 enum-told-2 c = search needs
 
-code-in-requires-2 : tie.Need-code-in-requires-2
-code-in-requires-2 c κs = search needs
+code-in-requires-3 : tie.Need-code-in-requires-3
+code-in-requires-3 c κs = search needs
 
 through-try-requires : tie.Need-through-try-requires
 through-try-requires c κs = search needs
 
-emitted-in-requires-2 : tie.Need-emitted-in-requires-2
-emitted-in-requires-2 c κs = search needs
+emitted-in-requires-3 : tie.Need-emitted-in-requires-3
+emitted-in-requires-3 c κs = search needs
 
-word-of-requires-2 : tie.Need-word-of-requires-2
-word-of-requires-2 c κs =
-    let at-through-try = c .before .before in
-    let at-code-in2 = at-through-try .before in
-    let b = through-below (at-code-in2 .code-in2 .result .0) in (omega (arith, c .emitted-in2 .ensures), omega (arith, at-through-try .through-try .ensures, at-code-in2 .code-in2 .ensures))
+condition-in-requires-3 : tie.Need-condition-in-requires-3
+condition-in-requires-3 c κs = search needs
+
+word-of-requires-3 : tie.Need-word-of-requires-3
+word-of-requires-3 c κs =
+    let b = through-below (c .before .before .before .before .code-in3 .result .0) in (
+      omega (arith, c .before .emitted-in3 .ensures),
+      omega (arith, c .before .before .before .through-try .ensures, c .before .before .before .before .code-in3 .ensures),
+      omega (arith, c .condition-in3 .ensures),
+    )
 
 put-requires-3 : tie.Need-put-requires-3
 put-requires-3 c κs = search needs
@@ -86,53 +115,57 @@ same-length c = search needs
 
 returns-3 : tie.Need-returns-3
 returns-3 c =
-    let at-put = c .before .before in
-    let at-word-of = at-put .before in
-    let at-code-in = at-word-of .before in
-    let at-without = at-code-in .before .before in
-    let at-if1 = at-without .before in
-    let at-contains = at-if1 .before in
-    let at-emitted-in = at-contains .before in
-    let at-change = at-emitted-in .before .before in
-    let s = at-change .before .before .before in
-    let a = s .args in
-    put-one (a .area .now) (a .base) (a .m) _ _
-    (hide-one (a .change) (a .w) (a .l) _ _ _ _ _ (at-change .change .given .1) (at-emitted-in .emitted-in .ensures) (sym (at-contains .contains .ensures) ∙ not-false _ (at-if1 .if1 .left))
-    (at-without .without .ensures) (at-code-in .code-in .ensures) (at-word-of .word-of .ensures))
-    (at-put .put .ensures)
+    let s = c .before .before .before .before .before .before in
+    let t = s .before .before .before .before .before .before in
+    let a = t .before .before .before .args in
+    put-as (a .area .now) (a .base) (a .m) _ _ (hide-one (a .change) (a .w) (a .l) _ _ _ _ _ _ (t .change .given .1) (s .before .before .before .before .emitted-in .ensures)
+    (sym (s .before .before .before .contains .ensures) ∙ not-false _ (s .before .before .if1 .left)) (s .before .without .ensures)
+    (c .before .before .before .before .before .code-in .ensures) (c .before .before .before .before .condition-in .ensures) (c .before .before .before .word-of .ensures))
+    (c .before .before .put .ensures)
 
 same-length-2 : tie.Need-same-length-2
 same-length-2 c = search needs
 
 returns-4 : tie.Need-returns-4
 returns-4 c =
-    let at-put2 = c .before .before in
-    let at-if2 = at-put2 .before .before in
-    let at-ends = at-if2 .before in
-    let at-enum-told = at-ends .before in
-    let s = at-enum-told .before .before .before in
-    let a = s .args in
-    put-one (a .area .now) (a .base) (a .m) _ _
-    (going-one (a .change) (a .w) (a .l) (at-enum-told .enum-told .given .1) (at-ends .ends .ensures .1 (at-if2 .if2 .left)))
-    (at-put2 .put2 .ensures)
+    let s = c .before .before .before .before .before .before in
+    let a = s .before .before .args in
+    put-as (a .area .now) (a .base) (a .m) _ _ (local-is (a .change) (a .w) (a .l) _ _ (c .before .before .before .before .before .change2 .given .1))
+    (c .before .before .alter-local .ensures)
 
 same-length-3 : tie.Need-same-length-3
 same-length-3 c = search needs
 
 returns-5 : tie.Need-returns-5
 returns-5 c =
-    let at-put3 = c .before .before in
-    let at-word-of2 = at-put3 .before in
-    let at-emitted-in2 = at-word-of2 .before in
-    let at-through-try = at-emitted-in2 .before .before in
-    let at-code-in2 = at-through-try .before in
-    let at-enum-told2 = at-code-in2 .before in
-    let s = at-enum-told2 .before .before .before in
-    let a = s .args in
-    put-one (a .area .now) (a .base) (a .m) _ _
-    (caught-one (a .change) (a .w) (a .l) _ _ _ _ (at-enum-told2 .enum-told2 .given .1) (at-emitted-in2 .emitted-in2 .ensures) (at-code-in2 .code-in2 .ensures) (at-through-try .through-try .ensures)
-    (at-word-of2 .word-of2 .ensures))
-    (at-put3 .put3 .ensures)
+    let s = c .before .before .before .before .before .before in
+    let t = s .before .before .before .before .before .before in
+    let a = t .args in
+    put-as (a .area .now) (a .base) (a .m) _ _ (given-is (a .change) (a .w) (a .l) _ _ _ _ _ (s .before .before .before .change3 .given .1) (s .before .condition-in2 .ensures)
+    (c .before .before .before .before .before .emitted-in2 .ensures) (c .before .before .before .before .code-in2 .ensures) (c .before .before .before .word-of2 .ensures))
+    (c .before .before .put-unless-clash .ensures)
+
+same-length-4 : tie.Need-same-length-4
+same-length-4 c = search needs
+
+returns-6 : tie.Need-returns-6
+returns-6 c =
+    let s = c .before .before .before .before .before .before in
+    let a = s .before .before .before .args in
+    put-as (a .area .now) (a .base) (a .m) _ _ (going-one (a .change) (a .w) (a .l) (s .enum-told .given .1)
+    (c .before .before .before .before .before .ends .ensures .1 (c .before .before .before .before .if2 .left))) (c .before .before .put2 .ensures)
+
+same-length-5 : tie.Need-same-length-5
+same-length-5 c = search needs
+
+returns-7 : tie.Need-returns-7
+returns-7 c =
+    let s = c .before .before .before .before .before .before in
+    let t = s .before .before .before .before .before .before in
+    let a = t .args in
+    put-as (a .area .now) (a .base) (a .m) _ _ (caught-one (a .change) (a .w) (a .l) _ _ _ _ _ (s .before .before .before .enum-told2 .given .1)
+    (c .before .before .before .before .before .emitted-in3 .ensures) (s .before .before .code-in3 .ensures) (s .before .through-try .ensures)
+    (c .before .before .before .before .condition-in3 .ensures) (c .before .before .before .word-of3 .ensures)) (c .before .before .put3 .ensures)
 
 pub alter-one-spec : {M : Type 1} → statement M
 alter-one-spec =
@@ -144,21 +177,35 @@ alter-one-spec =
     returns
     without-requires
     code-in-requires
+    condition-in-requires
     word-of-requires
     put-requires
+    enum-known-change-2
+    alter-local-requires
+    enum-known-change-3
+    condition-in-requires-2
+    emitted-in-requires-2
+    code-in-requires-2
+    word-of-requires-2
+    put-unless-clash-requires
     enum-told
     ends-requires
     returns-2
     put-requires-2
     enum-told-2
-    code-in-requires-2
+    code-in-requires-3
     through-try-requires
-    emitted-in-requires-2
-    word-of-requires-2
+    emitted-in-requires-3
+    condition-in-requires-3
+    word-of-requires-3
     put-requires-3
     same-length
     returns-3
     same-length-2
     returns-4
     same-length-3
-    returns-5)
+    returns-5
+    same-length-4
+    returns-6
+    same-length-5
+    returns-7)

@@ -1,4 +1,4 @@
--- The emitted sets are the high bits of the two words together.
+-- The emitted sets, and the conditions, are bits of the two words together.
 use lib.Bits.{or-lt}
 use Rattle.area.proofs.Products.{join-sequence, join-parallel}
 use native.Mathlib.Omega.{arith}
@@ -15,11 +15,13 @@ emitted-in-requires c κs = search needs
 code-in-requires : tie.Need-code-in-requires
 code-in-requires c κs = search needs
 
+condition-in-requires : tie.Need-condition-in-requires
+condition-in-requires c κs = search needs
+
 word-of-requires : tie.Need-word-of-requires
 word-of-requires c κs =
-    let at-emitted-in = c .before in
-    let s = at-emitted-in .before .before .before in
-    let b = or-lt 64 (s .args .w) (s .args .v) (omega arith) (omega arith) in (omega (arith, at-emitted-in .emitted-in .ensures), omega (arith, c .code-in .ensures))
+    let b = or-lt 64 (c .before .before .before .before .before .args .w) (c .before .before .before .before .before .args .v) (omega arith) (omega arith) in
+    (omega (arith, c .before .before .emitted-in .ensures), omega (arith, c .before .code-in .ensures), omega (arith, c .condition-in .ensures))
 
 enum-told-2 : tie.Need-enum-told-2
 enum-told-2 c = search needs
@@ -39,31 +41,29 @@ reached-requires c κs = search needs
 emitted-in-requires-2 : tie.Need-emitted-in-requires-2
 emitted-in-requires-2 c κs = search needs
 
+condition-in-requires-2 : tie.Need-condition-in-requires-2
+condition-in-requires-2 c κs = search needs
+
 word-of-requires-2 : tie.Need-word-of-requires-2
 word-of-requires-2 c κs =
-    let at-larger-code = c .before .before in
-    let at-code-in3 = at-larger-code .before in
-    let at-code-in2 = at-code-in3 .before in
-    let s = at-code-in2 .before .before .before in
-    let b = or-lt 64 (s .args .w) (s .args .v) (omega arith) (omega arith) in (
-      omega (arith, c .emitted-in2 .ensures),
-      omega
-          (arith, at-larger-code .larger-code .ensures, at-code-in2 .code-in2 .ensures, at-code-in3 .code-in3 .ensures),
+    let s = c .before .before .before .before .before .before in
+    let b = or-lt 64 (s .before .before .args .w) (s .before .before .args .v) (omega arith) (omega arith) in (
+      omega (arith, c .before .emitted-in2 .ensures),
+      omega (arith, c .before .before .before .larger-code .ensures, c .before .before .before .before .before .code-in2 .ensures, c .before .before .before .before .code-in3 .ensures),
+      omega (arith, c .condition-in2 .ensures),
     )
 
 returns : tie.Need-returns
-returns c = join-sequence _ _ _ _ _ _ _ _ (c .before .before .before .enum-told .given .1) (c .before .before .emitted-in .ensures) (c .before .code-in .ensures) (c .word-of .ensures)
+returns c =
+    join-sequence _ _ _ _ _ _ _ (c .before .before .before .emitted-in .ensures) (c .before .condition-in .ensures) _ _ (c .before .before .before .before .enum-told .given .1)
+    (c .before .before .code-in .ensures) (c .word-of .ensures)
 
 returns-2 : tie.Need-returns-2
 returns-2 c =
-    let at-emitted-in2 = c .before in
-    let at-reached = at-emitted-in2 .before in
-    let at-larger-code = at-reached .before in
-    let at-code-in3 = at-larger-code .before in
-    let at-code-in2 = at-code-in3 .before in
-    let at-enum-told2 = at-code-in2 .before in
-    join-parallel _ _ _ _ _ _ _ _ _ _ _ (at-enum-told2 .enum-told2 .given .1) (at-emitted-in2 .emitted-in2 .ensures) (at-code-in2 .code-in2 .ensures) (at-code-in3 .code-in3 .ensures)
-    (at-larger-code .larger-code .ensures) (c .word-of2 .ensures) (at-reached .reached .ensures)
+    let s = c .before .before .before .before .before .before in
+    join-parallel _ _ _ _ _ _ _ (c .before .before .emitted-in2 .ensures) (c .before .condition-in2 .ensures) _ _ _ _ _ (s .before .enum-told2 .given .1) (s .code-in2 .ensures)
+    (c .before .before .before .before .before .code-in3 .ensures) (c .before .before .before .before .larger-code .ensures) (c .word-of2 .ensures)
+    (c .before .before .before .reached .ensures)
 
 pub join-spec : {M : Type 1} → statement M
 join-spec =
@@ -72,6 +72,7 @@ join-spec =
     enum-told
     emitted-in-requires
     code-in-requires
+    condition-in-requires
     word-of-requires
     enum-told-2
     code-in-requires-2
@@ -79,6 +80,7 @@ join-spec =
     larger-code-requires
     reached-requires
     emitted-in-requires-2
+    condition-in-requires-2
     word-of-requires-2
     returns
     returns-2)

@@ -1,4 +1,4 @@
--- The words compare as the reactions do: O and k are one number, O first.
+-- The words compare as the rows do: O, k and the condition are one number, O first.
 use Rattle.area.proofs.Rows.{packed-lt, packed-gt, packed-eq}
 use mathlib.Core.Path.{sym}
 use Rattle.area.proofs.less.Statement.{statement}

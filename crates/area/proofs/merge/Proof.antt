@@ -10,15 +10,13 @@ returns c = merged-large _++_ (c .before .before .args .area .now) (c .before .b
 
 returns-2 : tie.Need-returns-2
 returns-2 c =
-    let at-if1 = c .before in
-    let s = at-if1 .before .before in
-    merged-none (s .args .area .now) (s .args .base) (s .args .n1) (s .args .n2) (s .pre) (at-if1 .if1 .left) (c .if2 .taken)
+    merged-none (c .before .before .before .args .area .now) (c .before .before .before .args .base) (c .before .before .before .args .n1) (c .before .before .before .args .n2)
+    (c .before .before .before .pre) (c .before .if1 .left) (c .if2 .taken)
 
 returns-3 : tie.Need-returns-3
 returns-3 c =
-    let at-if1 = c .before .before in
-    let s = at-if1 .before .before in
-    merged-same (s .args .area .now) (s .args .base) (s .args .n1) (s .args .n2) (s .pre) (at-if1 .if1 .left) (c .if3 .taken)
+    merged-same (c .before .before .before .before .args .area .now) (c .before .before .before .before .args .base) (c .before .before .before .before .args .n1)
+    (c .before .before .before .before .args .n2) (c .before .before .before .before .pre) (c .before .before .if1 .left) (c .if3 .taken)
 
 sub-if4 : tie.Need-sub-if4
 sub-if4 c = omega arith
@@ -37,9 +35,9 @@ add-if4-2 c = omega arith
 
 returns-4 : tie.Need-returns-4
 returns-4 c =
-    let at-if1 = c .before .before .before in
-    let s = at-if1 .before .before in
-    merged-cramped _++_ (s .args .area .now) (s .args .base) (s .args .n1) (s .args .n2) (at-if1 .if1 .left) (omega (arith, c .if4 .taken, s .pre .within))
+    merged-cramped _++_ (c .before .before .before .before .before .args .area .now) (c .before .before .before .before .before .args .base)
+    (c .before .before .before .before .before .args .n1) (c .before .before .before .before .before .args .n2) (c .before .before .before .if1 .left)
+    (omega (arith, c .if4 .taken, c .before .before .before .before .before .pre .within))
 
 merge-both-requires : tie.Need-merge-both-requires
 merge-both-requires c κs = omega arith
@@ -49,10 +47,9 @@ same-length c = omega arith
 
 returns-5 : tie.Need-returns-5
 returns-5 c =
-    let at-merge-both = c .before .before in
-    let at-if1 = at-merge-both .before .before .before .before .before in
-    let s = at-if1 .before .before in
-    merged-small _++_ (s .args .area .now) (s .args .base) (s .args .n1) (s .args .n2) (at-if1 .if1 .left) (at-merge-both .merge-both .ensures)
+    let u = c .before .before .before .before .before .before in
+    merged-small _++_ (u .before .before .before .args .area .now) (u .before .before .before .args .base) (u .before .before .before .args .n1) (u .before .before .before .args .n2)
+    (u .before .if1 .left) (c .before .before .merge-both .ensures)
 
 pub merge-spec : {M : Type 1} → statement M
 merge-spec =

@@ -1,4 +1,4 @@
--- The invariant: i and j reactions of the two lists are carried to the top.
+-- The invariant: i and j rows of the two lists are carried to the top.
 use Prim.Native.Nat.{_+_, _*_, _-_, _≤_}
 use mathlib.Core.List.{_++_}
 use Rattle.area.proofs.Made.{Filling}
@@ -45,20 +45,21 @@ add-carry : tie.Need-add-carry Inv-loop μ-loop
 add-carry c = omega arith
 
 carry-requires : tie.Need-carry-requires Inv-loop μ-loop
-carry-requires c κs = let f = c .before .before .before .before .before .loop .inv .2 in let h = c .before .before .first .ensures .0 (c .before .if1 .taken) in (f .small, omega arith, omega (arith, f .same), f .rising)
+carry-requires c κs =
+    let f = c .before .before .before .before .before .loop .inv .2 in
+    let h = c .before .before .first .ensures .0 (c .before .if1 .taken) in
+    (f .small, omega arith, omega (arith, f .same), f .rising)
 
 same-length : tie.Need-same-length Inv-loop μ-loop
 same-length c = omega arith
 
 returns : tie.Need-returns Inv-loop μ-loop
 returns c =
-    let at-carry = c .before .before .before in
-    let at-if1 = at-carry .before .before in
-    let at-first = at-if1 .before in
-    let at-loop = at-first .before .before .before in
-    let s = at-loop .before .before in
-    first-over (s .args .area .now) (s .args .base) (s .args .n1) (s .args .n2) (at-loop .loop .area) _ (at-loop .loop .i) (at-loop .loop .j) (at-loop .loop .inv .2)
-    (at-first .first .ensures .0 (at-if1 .if1 .taken)) _ _ (at-carry .carry .ensures) (c .if2 .taken)
+    let u = c .before .before .before .before .before .before in
+    let s = u .before .before .before .before .before in
+    first-over (s .args .area .now) (s .args .base) (s .args .n1) (s .args .n2) (u .before .before .before .loop .area) _ (u .before .before .before .loop .i)
+    (u .before .before .before .loop .j) (u .before .before .before .loop .inv .2) (u .first .ensures .0 (c .before .before .before .before .before .if1 .taken)) _ _
+    (c .before .before .before .carry .ensures) (c .if2 .taken)
 
 add-i : tie.Need-add-i Inv-loop μ-loop
 add-i c = omega arith
@@ -68,16 +69,13 @@ loop-less c = omega arith
 
 loop-again : tie.Need-loop-again Inv-loop μ-loop
 loop-again c =
-    let at-carry = c .before .before .before in
-    let at-if1 = at-carry .before .before in
-    let at-first = at-if1 .before in
-    let at-loop = at-first .before .before .before in
-    let s = at-loop .before .before in
-    let h = at-first .first .ensures .0 (at-if1 .if1 .taken) in (
+    let u = c .before .before .before .before .before .before in
+    let s = u .before .before .before .before .before in
+    let h = u .first .ensures .0 (c .before .before .before .before .before .if1 .taken) in (
       omega arith,
       omega arith,
-      first-step (s .args .area .now) (s .args .base) (s .args .n1) (s .args .n2) (at-loop .loop .area) _ (at-loop .loop .i) (at-loop .loop .j) (at-loop .loop .inv .2) h _ _
-          (at-carry .carry .ensures) (c .if2 .left),
+      first-step (s .args .area .now) (s .args .base) (s .args .n1) (s .args .n2) (u .before .before .before .loop .area) _ (u .before .before .before .loop .i)
+          (u .before .before .before .loop .j) (u .before .before .before .loop .inv .2) h _ _ (c .before .before .before .carry .ensures) (c .if2 .left),
     )
 
 mul-carry-2 : tie.Need-mul-carry-2 Inv-loop μ-loop
@@ -87,20 +85,21 @@ add-carry-2 : tie.Need-add-carry-2 Inv-loop μ-loop
 add-carry-2 c = omega arith
 
 carry-requires-2 : tie.Need-carry-requires-2 Inv-loop μ-loop
-carry-requires-2 c κs = let f = c .before .before .before .before .before .loop .inv .2 in let h = c .before .before .first .ensures .1 (c .before .if1 .left) in (f .small, omega arith, omega (arith, f .same), f .rising)
+carry-requires-2 c κs =
+    let f = c .before .before .before .before .before .loop .inv .2 in
+    let h = c .before .before .first .ensures .1 (c .before .if1 .left) in
+    (f .small, omega arith, omega (arith, f .same), f .rising)
 
 same-length-2 : tie.Need-same-length-2 Inv-loop μ-loop
 same-length-2 c = omega arith
 
 returns-2 : tie.Need-returns-2 Inv-loop μ-loop
 returns-2 c =
-    let at-carry2 = c .before .before .before in
-    let at-if1 = at-carry2 .before .before in
-    let at-first = at-if1 .before in
-    let at-loop = at-first .before .before .before in
-    let s = at-loop .before .before in
-    second-over (s .args .area .now) (s .args .base) (s .args .n1) (s .args .n2) (at-loop .loop .area) _ (at-loop .loop .i) (at-loop .loop .j) (at-loop .loop .inv .2)
-    (at-first .first .ensures .1 (at-if1 .if1 .left)) _ _ (at-carry2 .carry2 .ensures) (c .if3 .taken)
+    let u = c .before .before .before .before .before .before in
+    let s = u .before .before .before .before .before in
+    second-over (s .args .area .now) (s .args .base) (s .args .n1) (s .args .n2) (u .before .before .before .loop .area) _ (u .before .before .before .loop .i)
+    (u .before .before .before .loop .j) (u .before .before .before .loop .inv .2) (u .first .ensures .1 (c .before .before .before .before .before .if1 .left)) _ _
+    (c .before .before .before .carry2 .ensures) (c .if3 .taken)
 
 add-j : tie.Need-add-j Inv-loop μ-loop
 add-j c = omega arith
@@ -110,16 +109,13 @@ loop-less-2 c = omega arith
 
 loop-again-2 : tie.Need-loop-again-2 Inv-loop μ-loop
 loop-again-2 c =
-    let at-carry2 = c .before .before .before in
-    let at-if1 = at-carry2 .before .before in
-    let at-first = at-if1 .before in
-    let at-loop = at-first .before .before .before in
-    let s = at-loop .before .before in
-    let h = at-first .first .ensures .1 (at-if1 .if1 .left) in (
+    let u = c .before .before .before .before .before .before in
+    let s = u .before .before .before .before .before in
+    let h = u .first .ensures .1 (c .before .before .before .before .before .if1 .left) in (
       omega arith,
       omega arith,
-      second-step (s .args .area .now) (s .args .base) (s .args .n1) (s .args .n2) (at-loop .loop .area) _ (at-loop .loop .i) (at-loop .loop .j) (at-loop .loop .inv .2) h _ _
-          (at-carry2 .carry2 .ensures) (c .if3 .left),
+      second-step (s .args .area .now) (s .args .base) (s .args .n1) (s .args .n2) (u .before .before .before .loop .area) _ (u .before .before .before .loop .i)
+          (u .before .before .before .loop .j) (u .before .before .before .loop .inv .2) h _ _ (c .before .before .before .carry2 .ensures) (c .if3 .left),
     )
 
 lower-requires : tie.Need-lower-requires Inv-loop μ-loop
@@ -130,12 +126,20 @@ same-length-3 c = omega arith
 
 returns-3 : tie.Need-returns-3 Inv-loop μ-loop
 returns-3 c =
-    let at-lower = c .before .before in
-    let at-loop-test = at-lower .before .before in
-    let at-loop = at-loop-test .before in
-    let s = at-loop .before .before in
-    merge-end (s .args .area .now) (s .args .base) (s .args .n1) (s .args .n2) (at-loop .loop .area) _ (at-loop .loop .i) (at-loop .loop .j) (at-loop .loop .inv .2)
-    (omega (arith, at-loop-test .loop-test .left, at-loop .loop .inv .0, at-loop .loop .inv .1)) (omega (arith, at-loop-test .loop-test .left, at-loop .loop .inv .0, at-loop .loop .inv .1)) _ (at-lower .lower .ensures)
+    let u = c .before .before .before .before .before .before in
+    let s = u .before in
+    merge-end (s .args .area .now) (s .args .base) (s .args .n1) (s .args .n2) (c .before .before .before .before .before .loop .area) _ (c .before .before .before .before .before .loop .i)
+    (c .before .before .before .before .before .loop .j) (c .before .before .before .before .before .loop .inv .2) (omega (
+      arith,
+      c .before .before .before .before .loop-test .left,
+      c .before .before .before .before .before .loop .inv .0,
+      c .before .before .before .before .before .loop .inv .1,
+    )) (omega (
+      arith,
+      c .before .before .before .before .loop-test .left,
+      c .before .before .before .before .before .loop .inv .0,
+      c .before .before .before .before .before .loop .inv .1,
+    )) _ (c .before .before .lower .ensures)
 
 pub merge-both-spec : {M : Type 1} → statement M
 merge-both-spec =

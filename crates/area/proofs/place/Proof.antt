@@ -1,80 +1,64 @@
--- The invariant: the reactions from the j-th on are above (w, l).
-use mathlib.Core.Path.{_≡_, sym, _∙_}
-use mathlib.Core.Bool.{true, false}
-use Prim.Native.Nat.{ℕ, _+_, _*_, _≤_, _<_}
-use borrow.Author.Tests.{not-true, not-false}
-use Rattle.esterel.specs.Listing.{before}
-use Rattle.area.specs.inner.Area.{packed, rowAt}
-use Rattle.area.proofs.Moves.{place-step, last-is}
+-- The last row decides, or the search does.
+use mathlib.Core.Path.{sym, _∙_}
+use Rattle.area.specs.inner.Layout.{packed}
+use Rattle.area.proofs.Moves.{placed-none, placed-last, placed-search}
 use native.Mathlib.Omega.{arith}
+use borrow.Author.Needs.{needs}
 use Rattle.area.proofs.place.Statement.{statement}
 use Rattle.area.proofs.place.Tie as tie
 
-abbrev Inv-loop : tie.InvT-loop
-Inv-loop area base n w l j₀ j = (j ≤ n) × ((i : ℕ) → j ≤ i → i < n → before (packed w l) (rowAt area (base + 2 * i)) ≡ true)
+returns : tie.Need-returns
+returns c =
+    placed-none (c .before .before .args .area .now) (c .before .before .args .base) (c .before .before .args .n) (packed (c .before .before .args .w) (c .before .before .args .l))
+    (c .if1 .taken)
 
-abbrev μ-loop : tie.MeasureT-loop
-μ-loop area base n w l j₀ j = j
+sub-i : tie.Need-sub-i
+sub-i c = search needs
 
-loop-holds : tie.Need-loop-holds Inv-loop μ-loop
-loop-holds c = (omega arith, λ i h k. absurd (omega arith))
+mul-q : tie.Need-mul-q
+mul-q c = search needs
 
-sub-i : tie.Need-sub-i Inv-loop μ-loop
-sub-i c = omega arith
+add-q : tie.Need-add-q
+add-q c = search needs
 
-mul-q : tie.Need-mul-q Inv-loop μ-loop
-mul-q c = omega arith
+mul-less : tie.Need-mul-less
+mul-less c = search needs
 
-add-q : tie.Need-add-q Inv-loop μ-loop
-add-q c = omega arith
+shared-slice-read-less : tie.Need-shared-slice-read-less
+shared-slice-read-less c = search needs
 
-mul-less : tie.Need-mul-less Inv-loop μ-loop
-mul-less c = omega arith
+add-less : tie.Need-add-less
+add-less c = search needs
 
-shared-slice-read-less : tie.Need-shared-slice-read-less Inv-loop μ-loop
-shared-slice-read-less c = omega arith
+mul-less-2 : tie.Need-mul-less-2
+mul-less-2 c = search needs
 
-add-less : tie.Need-add-less Inv-loop μ-loop
-add-less c = omega arith
+shared-slice-read-less-2 : tie.Need-shared-slice-read-less-2
+shared-slice-read-less-2 c = search needs
 
-mul-less-2 : tie.Need-mul-less-2 Inv-loop μ-loop
-mul-less-2 c = omega arith
+less-requires : tie.Need-less-requires
+less-requires c κs = search needs
 
-shared-slice-read-less-2 : tie.Need-shared-slice-read-less-2 Inv-loop μ-loop
-shared-slice-read-less-2 c = omega arith
+search-requires : tie.Need-search-requires
+search-requires c κs = let h = c .before .before .before .before .if1 .left in (omega arith, sym (c .before .less .ensures) ∙ c .if2 .taken)
 
-less-requires : tie.Need-less-requires Inv-loop μ-loop
-less-requires c κs = tt
+returns-2 : tie.Need-returns-2
+returns-2 c =
+    let s = c .before .before .before .before .before .before in
+    let h = c .before .before .before .before .before .if1 .left in
+    placed-search (s .before .args .area .now) (s .before .args .base) (s .before .args .n) (packed (s .before .args .w) (s .before .args .l)) _ (omega arith) (c .search .ensures)
 
-returns : tie.Need-returns Inv-loop μ-loop
-returns c = let s = c .before .before .before .before .before in
-    let a = s .before .before .args in
-    record {
-      within = s .loop .inv .0;
-      above = s .loop .inv .1;
-      last = last-is (s .loop .j) (c .before .before .before .before .loop-test .taken) (λ k. before (packed (a .w) (a .l)) (rowAt (a .area .now) (a .base + 2 * k)) ≡ false) (sym (c .before .less .ensures) ∙ not-true _ (c .if1 .taken));
-    }
-
-loop-less : tie.Need-loop-less Inv-loop μ-loop
-loop-less c = omega arith
-
-loop-again : tie.Need-loop-again Inv-loop μ-loop
-loop-again c = let s = c .before .before .before .before .before in
-    let a = s .before .before .args in (
-      omega arith,
-      place-step (packed (a .w) (a .l)) (a .area .now) (a .base) (a .n) (s .loop .j) (c .before .before .before .before .loop-test .taken) (s .loop .inv .1) (sym (c .before .less .ensures) ∙ not-false _ (c .if1 .left)),
-    )
-
-returns-2 : tie.Need-returns-2 Inv-loop μ-loop
-returns-2 c = record { within = omega arith; above = λ i h k. c .before .loop .inv .1 i (omega arith) k; last = λ j e. absurd (omega arith) }
+returns-3 : tie.Need-returns-3
+returns-3 c =
+    let s = c .before .before .before .before .before .before in
+    let h = c .before .before .before .before .if1 .left in
+    placed-last (s .args .area .now) (s .args .base) (s .args .n) (packed (s .args .w) (s .args .l)) (omega arith) (sym (c .before .less .ensures) ∙ c .if2 .left)
 
 pub place-spec : {M : Type 1} → statement M
 place-spec =
     tie.close
     (tie.spec
-    Inv-loop
-    μ-loop
-    loop-holds
+    returns
     sub-i
     mul-q
     add-q
@@ -84,7 +68,6 @@ place-spec =
     mul-less-2
     shared-slice-read-less-2
     less-requires
-    returns
-    loop-less
-    loop-again
-    returns-2)
+    search-requires
+    returns-2
+    returns-3)

@@ -1,4 +1,4 @@
--- One reaction with one, or many with many.
+-- One row with one, or many with many.
 use Rattle.area.specs.inner.Rules.{product as productOf}
 use Rattle.area.proofs.Merges.{merged-large, merged-one, merged-cramped, merged-small}
 use native.Mathlib.Omega.{arith}
@@ -6,7 +6,9 @@ use Rattle.area.proofs.product.Statement.{statement}
 use Rattle.area.proofs.product.Tie as tie
 
 returns : tie.Need-returns
-returns c = merged-large (productOf (c .before .before .args .how)) (c .before .before .args .area .now) (c .before .before .args .base) (c .before .before .args .n1) (c .before .before .args .n2) (c .if1 .taken)
+returns c =
+    merged-large (productOf (c .before .before .args .how)) (c .before .before .args .area .now) (c .before .before .args .base) (c .before .before .args .n1) (c .before .before .args .n2)
+    (c .if1 .taken)
 
 product-of-one-requires : tie.Need-product-of-one-requires
 product-of-one-requires c κs = omega (arith, c .before .before .before .before .before .pre .next (c .before .before .before .if1 .left) .0)
@@ -16,11 +18,9 @@ same-length c = omega arith
 
 returns-2 : tie.Need-returns-2
 returns-2 c =
-    let at-product-of-one = c .before .before in
-    let at-if3 = at-product-of-one .before .before in
-    let at-if2 = at-if3 .before in
-    let s = at-if2 .before .before .before in
-    merged-one (productOf (s .args .how)) (s .args .area .now) _ (s .args .base) (s .args .n1) (s .args .n2) _ (at-if2 .if2 .taken) (at-if3 .if3 .taken) (at-product-of-one .product-of-one .ensures)
+    let u = c .before .before .before .before .before .before in
+    merged-one (productOf (u .before .before .args .how)) (u .before .before .args .area .now) _ (u .before .before .args .base) (u .before .before .args .n1) (u .before .before .args .n2) _
+    (c .before .before .before .before .before .if2 .taken) (c .before .before .before .before .if3 .taken) (c .before .before .product-of-one .ensures)
 
 sub-if4 : tie.Need-sub-if4
 sub-if4 c = omega arith
@@ -39,9 +39,9 @@ add-if4-2 c = omega arith
 
 returns-3 : tie.Need-returns-3
 returns-3 c =
-    let at-if1 = c .before .before in
-    let s = at-if1 .before .before in
-    merged-cramped (productOf (s .args .how)) (s .args .area .now) (s .args .base) (s .args .n1) (s .args .n2) (at-if1 .if1 .left) (omega (arith, c .if4 .taken, s .pre .within))
+    merged-cramped (productOf (c .before .before .before .before .args .how)) (c .before .before .before .before .args .area .now) (c .before .before .before .before .args .base)
+    (c .before .before .before .before .args .n1) (c .before .before .before .before .args .n2) (c .before .before .if1 .left)
+    (omega (arith, c .if4 .taken, c .before .before .before .before .pre .within))
 
 product-of-many-requires : tie.Need-product-of-many-requires
 product-of-many-requires c κs = omega arith
@@ -51,10 +51,9 @@ same-length-2 c = omega arith
 
 returns-4 : tie.Need-returns-4
 returns-4 c =
-    let at-product-of-many = c .before .before in
-    let at-if1 = at-product-of-many .before .before .before .before in
-    let s = at-if1 .before .before in
-    merged-small (productOf (s .args .how)) (s .args .area .now) (s .args .base) (s .args .n1) (s .args .n2) (at-if1 .if1 .left) (at-product-of-many .product-of-many .ensures)
+    let u = c .before .before .before .before .before .before in
+    merged-small (productOf (u .before .before .args .how)) (u .before .before .args .area .now) (u .before .before .args .base) (u .before .before .args .n1) (u .before .before .args .n2)
+    (u .if1 .left) (c .before .before .product-of-many .ensures)
 
 pub product-spec : {M : Type 1} → statement M
 product-spec =

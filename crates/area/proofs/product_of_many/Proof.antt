@@ -1,4 +1,4 @@
--- The invariant: what the reactions from the i-th on give is still to be put in.
+-- The invariant: what the rows from the i-th on give is still to be put in.
 use Prim.Native.Nat.{_+_, _*_, _-_}
 use Rattle.area.proofs.Made.{Filling}
 use Rattle.area.proofs.Products.{products, products-goal, products-start, products-over, products-step, products-end}
@@ -57,12 +57,10 @@ same-length c = omega arith
 
 returns : tie.Need-returns Inv-loop μ-loop
 returns c =
-    let at-add-pairs = c .before .before .before in
-    let at-loop-test = at-add-pairs .before .before .before .before in
-    let at-loop = at-loop-test .before in
-    let s = at-loop .before .before in
-    products-over (s .args .how) (s .args .area .now) (s .args .base) (s .args .n1) (s .args .n2) (at-loop .loop .area) _ (at-loop .loop .i) (at-loop .loop .inv) (at-loop-test .loop-test .taken) _ _
-    (at-add-pairs .add-pairs .ensures) (c .if1 .taken)
+    let u = c .before .before .before .before .before .before in
+    let s = u .before .before .before .before in
+    products-over (s .args .how) (s .args .area .now) (s .args .base) (s .args .n1) (s .args .n2) (u .before .before .loop .area) _ (u .before .before .loop .i)
+    (u .before .before .loop .inv) (u .before .loop-test .taken) _ _ (c .before .before .before .add-pairs .ensures) (c .if1 .taken)
 
 add-i : tie.Need-add-i Inv-loop μ-loop
 add-i c = omega arith
@@ -72,12 +70,10 @@ loop-less c = omega arith
 
 loop-again : tie.Need-loop-again Inv-loop μ-loop
 loop-again c =
-    let at-add-pairs = c .before .before .before in
-    let at-loop-test = at-add-pairs .before .before .before .before in
-    let at-loop = at-loop-test .before in
-    let s = at-loop .before .before in
-    products-step (s .args .how) (s .args .area .now) (s .args .base) (s .args .n1) (s .args .n2) (at-loop .loop .area) _ (at-loop .loop .i) (at-loop .loop .inv) (at-loop-test .loop-test .taken) _ _
-    (at-add-pairs .add-pairs .ensures) (c .if1 .left)
+    let u = c .before .before .before .before .before .before in
+    let s = u .before .before .before .before in
+    products-step (s .args .how) (s .args .area .now) (s .args .base) (s .args .n1) (s .args .n2) (u .before .before .loop .area) _ (u .before .before .loop .i)
+    (u .before .before .loop .inv) (u .before .loop-test .taken) _ _ (c .before .before .before .add-pairs .ensures) (c .if1 .left)
 
 lower-requires : tie.Need-lower-requires Inv-loop μ-loop
 lower-requires c κs = let f = c .before .before .loop .inv in (omega arith, omega (arith, f .same, f .fits))
@@ -87,12 +83,11 @@ same-length-2 c = omega arith
 
 returns-2 : tie.Need-returns-2 Inv-loop μ-loop
 returns-2 c =
-    let at-lower = c .before .before in
-    let at-loop-test = at-lower .before .before in
-    let at-loop = at-loop-test .before in
-    let s = at-loop .before .before in
-    products-end (s .args .how) (s .args .area .now) (s .args .base) (s .args .n1) (s .args .n2) (at-loop .loop .area) _ (at-loop .loop .i) (at-loop .loop .inv) (at-loop-test .loop-test .left) _
-    (at-lower .lower .ensures)
+    let u = c .before .before .before .before .before .before in
+    let s = u .before in
+    products-end (s .args .how) (s .args .area .now) (s .args .base) (s .args .n1) (s .args .n2) (c .before .before .before .before .before .loop .area) _
+    (c .before .before .before .before .before .loop .i) (c .before .before .before .before .before .loop .inv) (c .before .before .before .before .loop-test .left) _
+    (c .before .before .lower .ensures)
 
 pub product-of-many-spec : {M : Type 1} → statement M
 product-of-many-spec =

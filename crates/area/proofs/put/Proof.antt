@@ -1,4 +1,4 @@
--- The place is found from the end; where (w, l) is not there yet, what stands above it moves up.
+-- The place is found; where (w, l) is not there yet, what stands above it moves up.
 use Rattle.area.proofs.Puts.{put-there, put-full, put-new}
 use borrow.Author.Needs.{needs}
 use Rattle.area.proofs.put.Statement.{statement}
@@ -15,23 +15,20 @@ same-length c = search needs
 
 returns : tie.Need-returns
 returns c =
-    let at-there = c .before in
-    let at-place = at-there .before .before in
-    let s = at-place .before .before .before in
-    put-there (s .args .area .now) (s .args .base) (s .args .n) (s .args .w) (s .args .l) (at-place .place .result) (s .pre .0) (s .pre .1) (s .pre .2) (at-place .place .ensures) (at-there .there .result)
-    (at-there .there .ensures .0) (at-there .there .ensures .1) (c .if1 .taken)
+    let s = c .before .before .before .before .before .before in
+    put-there (s .args .area .now) (s .args .base) (s .args .n) (s .args .w) (s .args .l) (c .before .before .before .place .result) (s .pre .0) (s .pre .1) (s .pre .2)
+    (c .before .before .before .place .ensures) (c .before .there .result) (c .before .there .ensures .0) (c .before .there .ensures .1) (c .if1 .taken)
 
 same-length-2 : tie.Need-same-length-2
 same-length-2 c = search needs
 
 returns-2 : tie.Need-returns-2
 returns-2 c =
-    let at-if1 = c .before in
-    let at-there = at-if1 .before in
-    let at-place = at-there .before .before in
-    let s = at-place .before .before .before in
-    put-full (s .args .area .now) (s .args .base) (s .args .n) (s .args .w) (s .args .l) (at-place .place .result) (s .pre .0) (s .pre .1) (s .pre .2) (at-place .place .ensures) (at-there .there .result)
-    (at-there .there .ensures .0) (at-there .there .ensures .1) (at-if1 .if1 .left) (c .if2 .taken)
+    let u = c .before .before .before .before .before .before in
+    let s = u .before in
+    put-full (s .args .area .now) (s .args .base) (s .args .n) (s .args .w) (s .args .l) (c .before .before .before .before .place .result) (s .pre .0) (s .pre .1) (s .pre .2)
+    (c .before .before .before .before .place .ensures) (c .before .before .there .result) (c .before .before .there .ensures .0) (c .before .before .there .ensures .1)
+    (c .before .if1 .left) (c .if2 .taken)
 
 mul-f : tie.Need-mul-f
 mul-f c = search needs
@@ -59,14 +56,12 @@ same-length-3 c = search needs
 
 returns-3 : tie.Need-returns-3
 returns-3 c =
-    let at-store = c .before .before in
-    let at-if2 = at-store .before .before .before .before .before .before in
-    let at-if1 = at-if2 .before in
-    let at-there = at-if1 .before in
-    let at-place = at-there .before .before in
-    let s = at-place .before .before .before in
-    put-new (s .args .area .now) (s .args .base) (s .args .n) (s .args .w) (s .args .l) (at-place .place .result) (s .pre .0) (s .pre .1) (s .pre .2) (at-place .place .ensures) (at-there .there .result)
-    (at-there .there .ensures .0) (at-there .there .ensures .1) (at-if1 .if1 .left) (at-if2 .if2 .left) _ _ (c .before .before .before .before .before .before .«open» .ensures) (at-store .store .ensures)
+    let u = c .before .before .before .before .before .before in
+    let v = u .before .before .before .before .before .before in
+    let s = v .before .before .before in
+    put-new (s .args .area .now) (s .args .base) (s .args .n) (s .args .w) (s .args .l) (v .place .result) (s .pre .0) (s .pre .1) (s .pre .2) (v .place .ensures)
+    (u .before .before .before .before .there .result) (u .before .before .before .before .there .ensures .0) (u .before .before .before .before .there .ensures .1)
+    (u .before .before .before .if1 .left) (u .before .before .if2 .left) _ _ (u .«open» .ensures) (c .before .before .store .ensures)
 
 pub put-spec : {M : Type 1} → statement M
 put-spec =

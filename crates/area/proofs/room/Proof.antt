@@ -1,4 +1,4 @@
--- The words above base are compared with two for each reaction and two more.
+-- The words above base are compared with two for each row and two more.
 use Prim.Native.Nat.{_+_, _*_, _-_}
 use lib.ListN.{length}
 use borrow.Author.Tests.{leb-true, leb-false}

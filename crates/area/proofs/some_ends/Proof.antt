@@ -1,7 +1,9 @@
--- The invariant: some reaction ends exactly if one from the i-th on does.
+-- The invariant: some row ends exactly if one from the i-th on does.
 use mathlib.Core.Path.{_≡_, ap}
 use Prim.Native.Nat.{_+_, _*_, _-_}
+use mathlib.Core.List.{List}
 use Rattle.esterel.specs.Listing.{someEnds}
+use Rattle.esterel.specs.inner.Rows.{Row, reactions}
 use Rattle.area.specs.inner.Area.{rows}
 use Rattle.area.proofs.Rows.{rows-whole}
 use Rattle.area.proofs.Changes.{ends-here, ends-next, ends-not}
@@ -10,13 +12,13 @@ use Rattle.area.proofs.some_ends.Statement.{statement}
 use Rattle.area.proofs.some_ends.Tie as tie
 
 abbrev Inv-loop : tie.InvT-loop
-Inv-loop area base n i₀ i = someEnds (rows area (base + 2 * i) (n - i)) ≡ someEnds (rows area base n)
+Inv-loop area base n i₀ i = someEnds (reactions (rows area (base + 2 * i) (n - i))) ≡ someEnds (reactions (rows area base n))
 
 abbrev μ-loop : tie.MeasureT-loop
 μ-loop area base n i₀ i = n - i
 
 loop-holds : tie.Need-loop-holds Inv-loop μ-loop
-loop-holds c = ap someEnds (rows-whole (c .before .args .area .now) (c .before .args .base) (c .before .args .n))
+loop-holds c = ap (λ (z : List Row). someEnds (reactions z)) (rows-whole (c .before .args .area .now) (c .before .args .base) (c .before .args .n))
 
 mul-ends : tie.Need-mul-ends Inv-loop μ-loop
 mul-ends c = omega arith
@@ -35,11 +37,9 @@ ends-requires c κs = tt
 
 returns : tie.Need-returns Inv-loop μ-loop
 returns c =
-    let at-ends = c .before in
-    let at-loop-test = at-ends .before .before in
-    let at-loop = at-loop-test .before in
-    let s = at-loop .before .before in
-    let a = s .args in ends-here (a .area .now) (a .base) (a .n) (at-loop .loop .i) (at-loop .loop .inv) (at-loop-test .loop-test .taken) (at-ends .ends .ensures .0 (c .if1 .taken))
+    let a = c .before .before .before .before .before .before .args in
+    ends-here (a .area .now) (a .base) (a .n) (c .before .before .before .before .loop .i) (c .before .before .before .before .loop .inv) (c .before .before .before .loop-test .taken)
+    (c .before .ends .ensures .0 (c .if1 .taken))
 
 add-i : tie.Need-add-i Inv-loop μ-loop
 add-i c = omega arith
@@ -49,11 +49,9 @@ loop-less c = omega arith
 
 loop-again : tie.Need-loop-again Inv-loop μ-loop
 loop-again c =
-    let at-ends = c .before in
-    let at-loop-test = at-ends .before .before in
-    let at-loop = at-loop-test .before in
-    let s = at-loop .before .before in
-    let a = s .args in ends-next (a .area .now) (a .base) (a .n) (at-loop .loop .i) (at-loop .loop .inv) (at-loop-test .loop-test .taken) (at-ends .ends .ensures .1 (c .if1 .left))
+    let a = c .before .before .before .before .before .before .args in
+    ends-next (a .area .now) (a .base) (a .n) (c .before .before .before .before .loop .i) (c .before .before .before .before .loop .inv) (c .before .before .before .loop-test .taken)
+    (c .before .ends .ensures .1 (c .if1 .left))
 
 returns-2 : tie.Need-returns-2 Inv-loop μ-loop
 returns-2 c = let a = c .before .before .before .args in ends-not (a .area .now) (a .base) (a .n) (c .before .loop .i) (c .before .loop .inv) (c .loop-test .left)

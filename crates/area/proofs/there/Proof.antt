@@ -1,9 +1,10 @@
--- The last reaction that is not above (w, l) is (w, l) where it is not below it either.
+-- The last row that is not above (w, l) is (w, l) where it is not below it either.
 use mathlib.Core.Path.{_≡_, refl, sym, _∙_}
 use mathlib.Core.Bool.{not}
 use Prim.Native.Nat.{_+_, _*_}
-use Rattle.esterel.specs.Listing.{before}
-use Rattle.area.specs.inner.Area.{packed, rowAt}
+use Rattle.esterel.specs.inner.CappedRows.{beforeRow}
+use Rattle.area.specs.inner.Layout.{packed}
+use Rattle.area.specs.inner.Area.{rowAt}
 use Rattle.area.proofs.Moves.{last-is, not-not}
 use native.Mathlib.Omega.{arith}
 use borrow.Author.Needs.{needs}
@@ -41,10 +42,12 @@ less-requires : tie.Need-less-requires
 less-requires c κs = search needs
 
 returns-2 : tie.Need-returns-2
-returns-2 c = let s = c .before .before .before in
+returns-2 c =
+    let s = c .before .before .before in
     let a = s .before .before .args in (
       λ e. absurd (s .if1 .left e),
-      last-is (a .p) (let h = s .if1 .left in omega arith) (λ k. before (rowAt (a .area .now) (a .base + 2 * k)) (packed (a .w) (a .l)) ≡ not (not (c .less .result))) (sym (c .less .ensures) ∙ not-not (c .less .result)),
+      last-is (a .p) (let h = s .if1 .left in omega arith)
+          (λ k. beforeRow (rowAt (a .area .now) (a .base + 2 * k)) (packed (a .w) (a .l)) ≡ not (not (c .less .result))) (sym (c .less .ensures) ∙ not-not (c .less .result)),
     )
 
 pub there-spec : {M : Type 1} → statement M

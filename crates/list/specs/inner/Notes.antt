@@ -3,38 +3,18 @@
 use mathlib.Core.Path.{_≡_}
 use mathlib.Core.Bool.{cond}
 use mathlib.Core.List.{List}
-use Prim.Native.Nat.{ℕ, _+_, _*_, _≤_, _<_, min, max}
+use Prim.Native.Nat.{ℕ, _+_, _≤_, _<_, min, max}
 use lib.Dec.{ltb}
 use lib.ListN.{length, getD, set}
-use Rattle.esterel.specs.Statement.{Statement, pauses, size, depth}
+use Rattle.esterel.specs.Statement.{size}
 use Rattle.esterel.specs.Listing.{nesting}
 use Rattle.sets.specs.Set.{_union_}
-use Rattle.table.specs.Reading.{kindOfNode, operandOf, deepest}
-use Rattle.table.specs.inner.Places.{Placed, statementAt, statementOf, Known, Loaded}
+use Rattle.table.specs.inner.Places.{statementOf, Loaded}
+use Rattle.lister.specs.inner.Notes.{partAt, ReadWhole, EndsFrom, PausesFrom}
 
 -- where the statement at a place ends: past the nodes there is nothing
 unfoldable pub endIn : List ℕ → ℕ → ℕ
 endIn ends at = cond (ltb at (length ends)) (getD ends at 0) at
-
--- the statement at a place and the place after it, read down to the depth that no table exceeds
-abbrev pub placeAt : List ℕ → ℕ → Placed
-placeAt xs at = statementAt deepest xs at
-
-abbrev pub partAt : List ℕ → ℕ → Statement
-partAt xs at = placeAt xs at .statement
-
--- the statement at a place is read whole, from the first n nodes: none of it is missing, or too deep
-pub record ReadWhole (n : ℕ) (xs : List ℕ) (at : ℕ) : Type 0 where
-  pub shallow : depth (partAt xs at) ≤ deepest
-  pub full : at + size (partAt xs at) ≤ placeAt xs at .next
-  pub within : placeAt xs at .next ≤ n
-
--- from the place i on, the notes are right of each statement that is read whole
-unfoldable pub EndsFrom : ℕ → ℕ → List ℕ → List ℕ → Type 0
-EndsFrom i n xs ends = (at : ℕ) → i ≤ at → ReadWhole n xs at → getD ends at 0 ≡ placeAt xs at .next
-
-unfoldable pub PausesFrom : ℕ → ℕ → List ℕ → List ℕ → Type 0
-PausesFrom i n xs labels = (at : ℕ) → i ≤ at → ReadWhole n xs at → getD labels at 0 ≡ pauses (partAt xs at)
 
 -- the nesting, 13 standing for all above 12
 unfoldable pub NestsFrom : ℕ → ℕ → List ℕ → List ℕ → Type 0
@@ -86,30 +66,7 @@ NotedTwo at ends ends′ nests nests′ labels labels′ =
     NotesPut at (endIn ends second) (max (getD nests (at + 1) 0) (getD nests second 0)) (getD labels (at + 1) 0 union getD labels second 0)
     ends ends′ nests nests′ labels labels′
 
--- signals that are emitted are below 32, as in every table
-abbrev pub SmallSignals : ℕ → List ℕ → Type 0
-SmallSignals n xs = (i : ℕ) → i < n → kindOfNode (getD xs i 0) ≡ 3 → operandOf (getD xs i 0) < 32
-
 -- the buffer holds the nodes of an accepted statement, so many
 pub record Counted (xs : List ℕ) (n : ℕ) : Type 0 where
   pub loaded : Loaded xs
   pub count : size (statementOf xs) ≡ n
-
--- the statement at a place can be listed at the start
-pub record Startable (xs ends : List ℕ) (at : ℕ) : Type 0 where
-  pub count : ℕ
-  pub few : count ≤ 1024
-  pub right : EndsFrom 0 count xs ends
-  pub narrow : SmallSignals count xs
-  pub known : Known xs
-  pub whole : ReadWhole count xs at
-
--- and in a resumed state
-pub record Resumable (xs ends labels : List ℕ) (at : ℕ) : Type 0 where
-  pub ready : Startable xs ends at
-  pub right-labels : PausesFrom 0 (ready .count) xs labels
-
--- the n reactions of a large area stand in a small one; nothing is written where n says that there is no list
-pub record Copied (large a b : List ℕ) (n : ℕ) : Type 0 where
-  pub same-length : length b ≡ length a
-  pub copied : n ≤ 64 → (i : ℕ) → i < 2 * n → getD b i 0 ≡ getD large i 0

@@ -40,10 +40,7 @@ loop-less : tie.Need-loop-less Inv-loop μ-loop
 loop-less c = omega arith
 
 loop-again : tie.Need-loop-again Inv-loop μ-loop
-loop-again c =
-    let at-loop = c .before .before in
-    let s = at-loop .before .before in
-    (omega arith, copying-step (s .args .large .now) (s .args .area .now) (at-loop .loop .area) (at-loop .loop .i) (at-loop .loop .inv .1) (omega arith))
+loop-again c = (omega arith, copying-step (c .before .before .before .before .args .large .now) (c .before .before .before .before .args .area .now) (c .before .before .loop .area) (c .before .before .loop .i) (c .before .before .loop .inv .1) (omega arith))
 
 same-length : tie.Need-same-length Inv-loop μ-loop
 same-length c = c .before .loop .inv .1 .same-length

@@ -48,8 +48,8 @@ same-length-3 c = search needs
 returns : tie.Need-returns
 returns c =
     let at-mark = c .before .before .before .before .before .before in
-    let past12 = at-mark .before .before .before .before .before .before in
-    let s = past12 .before in
+    let at-slice-known = at-mark .before .before .before .before .before .before in
+    let s = at-slice-known .before in
     more-room (drop (s .args .count) (s .args .ends .now)) (drop (s .args .count) (s .args .nests .now)) (drop (s .args .count) (s .args .pauses .now))
     (noted-as refl (length-take-le (s .args .count) (s .args .ends .now) (s .pre .2)) (at-mark .mark .ensures))
 

@@ -5,7 +5,7 @@ use mathlib.Core.Path.{sym, ap, _∙_}
 use lib.ListN.{getD}
 use Rattle.sets.specs.Set.{only}
 use Rattle.table.proofs.Places.{none-of-kinds}
-use Rattle.list.proofs.Nodes.{not-known}
+use Rattle.lister.proofs.Nodes.{not-known}
 use Rattle.list.proofs.Marks.{has-room, pause-word, mark-nothing, mark-pause, mark-gotopause, mark-emit, mark-exit, mark-signal, mark-present, mark-sequence, mark-parallel, mark-loop, mark-try}
 use borrow.Author.Needs.{needs}
 use Rattle.list.proofs.marking.note_at.Statement.{statement}

@@ -18,10 +18,11 @@ pauses-at-requires c κs = omega arith
 
 note-requires : tie.Need-note-requires
 note-requires c κs =
-    let past6 = c .before .before .before .before .before .before in
-    let at-end-at = past6 .before in
+    let at-nest-at-arg = c .before .before .before .before .before .before in
+    let at-end-at = at-nest-at-arg .before in
     let s = at-end-at .before .before .before .before .before in
-    let p = s .pre in (p, at-end-at .end-at .ensures .1 (omega arith))
+    let p = s .pre in
+    (p, at-end-at .end-at .ensures .1 (omega arith))
 
 same-length : tie.Need-same-length
 same-length c = omega arith

@@ -23,10 +23,11 @@ pauses-at-requires c κs = omega arith
 
 note-requires : tie.Need-note-requires
 note-requires c κs =
-    let past6 = c .before .before .before .before .before .before in
-    let at-end-at = past6 .before .before in
+    let at-nest-at = c .before .before .before .before .before .before in
+    let at-end-at = at-nest-at .before .before in
     let s = at-end-at .before .before .before .before .before in
-    let p = s .pre in (p, at-end-at .end-at .ensures .1 (omega arith))
+    let p = s .pre in
+    (p, at-end-at .end-at .ensures .1 (omega arith))
 
 same-length : tie.Need-same-length
 same-length c = omega arith
@@ -44,7 +45,8 @@ returns c =
     let at-nested-once = at-pauses-at .before .before in
     let at-nest-at = at-nested-once .before in
     let at-end-at = at-nest-at .before .before in
-    wrote-as (at-note .note .ensures) (at-end-at .end-at .ensures .0) (at-nested-once .nested-once .ensures ∙ ap nestedOnce (at-nest-at .nest-at .ensures)) (at-pauses-at .pauses-at .ensures)
+    wrote-as (at-note .note .ensures) (at-end-at .end-at .ensures .0) (at-nested-once .nested-once .ensures ∙ ap nestedOnce (at-nest-at .nest-at .ensures))
+    (at-pauses-at .pauses-at .ensures)
 
 pub note-signal-spec : {M : Type 1} → statement M
 note-signal-spec =

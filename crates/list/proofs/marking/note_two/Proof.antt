@@ -44,11 +44,12 @@ pauses-at-requires-2 c κs = omega arith
 
 note-requires : tie.Need-note-requires
 note-requires c κs =
-    let past6 = c .before .before .before .before .before .before in
-    let at-end-at2 = past6 .before .before .before .before .before .before in
+    let at-pauses-at-arg = c .before .before .before .before .before .before in
+    let at-end-at2 = at-pauses-at-arg .before .before .before .before .before .before in
     let at-end-at = at-end-at2 .before .before in
     let s = at-end-at .before .before .before .before .before in
-    let p = s .pre in (p, at-end-at2 .end-at2 .ensures .1 (at-end-at .end-at .ensures .1 (omega arith)))
+    let p = s .pre in
+    (p, at-end-at2 .end-at2 .ensures .1 (at-end-at .end-at .ensures .1 (omega arith)))
 
 same-length : tie.Need-same-length
 same-length c = omega arith

@@ -1,7 +1,7 @@
 -- By the places in the three buffers.
 use lib.ListN.{length}
 use mathlib.Core.Path.{refl, sym}
-use Rattle.area.proofs.Rows.{rows-length}
+use Rattle.list.proofs.Limits.{held-length}
 use Rattle.list.proofs.Deliveries.{delivered-refused, delivered, short-signals, short-codes, short-labels, long-enough}
 use borrow.Author.Needs.{needs}
 use Rattle.list.proofs.writing.deliver.Statement.{statement}
@@ -10,18 +10,21 @@ use Rattle.list.proofs.writing.deliver.Tie as tie
 returns : tie.Need-returns
 returns c =
     let s = c .before .before .before .before .before in
-    delivered-refused _ 16 (short-signals (length (s .args .o .now)) (length (s .args .k .now)) (length (s .args .l .now)) (s .args .area .now) (s .args .n) (c .if1 .taken)) _ _ _ _ refl
+    delivered-refused _ 16 (short-signals (length (s .args .o .now)) (length (s .args .k .now)) (length (s .args .l .now)) (s .args .area .now) (s .args .n) (c .if1 .taken)) _ _ _
+    _ refl
 
 returns-2 : tie.Need-returns-2
 returns-2 c =
     let s = c .before .before .before .before .before .before in
-    delivered-refused _ 16 (short-codes (length (s .args .o .now)) (length (s .args .k .now)) (length (s .args .l .now)) (s .args .area .now) (s .args .n) (c .if2 .taken)) _ _ _ _ refl
+    delivered-refused _ 16 (short-codes (length (s .args .o .now)) (length (s .args .k .now)) (length (s .args .l .now)) (s .args .area .now) (s .args .n) (c .if2 .taken)) _ _ _ _
+    refl
 
 returns-3 : tie.Need-returns-3
 returns-3 c =
-    let past6 = c .before .before .before .before .before .before in
-    let s = past6 .before in
-    delivered-refused _ 16 (short-labels (length (s .args .o .now)) (length (s .args .k .now)) (length (s .args .l .now)) (s .args .area .now) (s .args .n) (c .if3 .taken)) _ _ _ _ refl
+    let at-shared-slice-known = c .before .before .before .before .before .before in
+    let s = at-shared-slice-known .before in
+    delivered-refused _ 16 (short-labels (length (s .args .o .now)) (length (s .args .k .now)) (length (s .args .l .now)) (s .args .area .now) (s .args .n) (c .if3 .taken)) _ _ _
+    _ refl
 
 fill-signals-requires : tie.Need-fill-signals-requires
 fill-signals-requires c κs = search needs
@@ -50,8 +53,10 @@ returns-4 c =
     let at-if2 = at-if3 .before in
     let at-if1 = at-if2 .before in
     let s = at-if1 .before .before .before .before .before in
-    delivered _ _ (long-enough (length (s .args .o .now)) (length (s .args .k .now)) (length (s .args .l .now)) (s .args .area .now) (s .args .n) (at-if1 .if1 .left) (at-if2 .if2 .left) (at-if3 .if3 .left)) (s .args .n)
-    (sym (rows-length (s .args .area .now) 0 (s .args .n))) (at-fill-signals .fill-signals .ensures) (at-fill-codes .fill-codes .ensures) (at-fill-labels .fill-labels .ensures)
+    delivered _ _
+    (long-enough (length (s .args .o .now)) (length (s .args .k .now)) (length (s .args .l .now)) (s .args .area .now) (s .args .n) (at-if1 .if1 .left) (at-if2 .if2 .left) (at-if3 .if3 .left))
+    (s .args .n) (sym (held-length (s .args .area .now) 0 (s .args .n))) (at-fill-signals .fill-signals .ensures) (at-fill-codes .fill-codes .ensures)
+    (at-fill-labels .fill-labels .ensures)
 
 pub deliver-spec : {M : Type 1} → statement M
 deliver-spec =

@@ -2,21 +2,21 @@
 use mathlib.Core.Path.{_∙_}
 use Prim.Native.Nat.{_-_, _≤_}
 use mathlib.Core.List.{map}
-use Rattle.area.specs.inner.Area.{rows}
 use Rattle.list.specs.Buffers.{codeIn}
+use Rattle.list.specs.inner.Finding.{reactionsHeld}
 use Rattle.list.proofs.Fills.{Filled, filled-none, filled-step, filled-all, fields-length, codes-at}
 use native.Mathlib.Omega.{arith}
 use Rattle.list.proofs.writing.fill_codes.Statement.{statement}
 use Rattle.list.proofs.writing.fill_codes.Tie as tie
 
 abbrev Inv-loop : tie.InvT-loop
-Inv-loop area n k₀ i₀ k i = (i ≤ n) × Filled (map codeIn (rows area 0 n)) k₀ k i
+Inv-loop area n k₀ i₀ k i = (i ≤ n) × Filled (map codeIn (reactionsHeld area n)) k₀ k i
 
 abbrev μ-loop : tie.MeasureT-loop
 μ-loop area n k₀ i₀ k i = n - i
 
 loop-holds : tie.Need-loop-holds Inv-loop μ-loop
-loop-holds c = (omega arith, filled-none (map codeIn (rows (c .before .before .args .area .now) 0 (c .before .before .args .n))) (c .before .before .args .k .now))
+loop-holds c = (omega arith, filled-none (map codeIn (reactionsHeld (c .before .before .args .area .now) (c .before .before .args .n))) (c .before .before .args .k .now))
 
 mul-code-in : tie.Need-mul-code-in Inv-loop μ-loop
 mul-code-in c = omega arith
@@ -53,7 +53,7 @@ loop-again c =
     let s = at-loop .before .before .before in
     let a = s .args in (
       omega arith,
-      filled-step (map codeIn (rows (a .area .now) 0 (a .n))) (a .k .now) (at-loop .loop .k) (at-loop .loop .i) _ (at-loop .loop .inv .1) (omega (arith, s .pre .1))
+      filled-step (map codeIn (reactionsHeld (a .area .now) (a .n))) (a .k .now) (at-loop .loop .k) (at-loop .loop .i) _ (at-loop .loop .inv .1) (omega (arith, s .pre .1))
           (at-code-in .code-in .ensures ∙ codes-at (a .area .now) (a .n) (at-loop .loop .i) (at-loop-test .loop-test .taken)),
     )
 
@@ -64,9 +64,9 @@ returns : tie.Need-returns Inv-loop μ-loop
 returns c =
     let at-loop = c .before in
     let s = at-loop .before .before .before in
-    let l = fields-length codeIn (s .args .area .now) 0 (s .args .n) in
-    filled-all (map codeIn (rows (s .args .area .now) 0 (s .args .n))) (s .args .k .now) (at-loop .loop .k) (at-loop .loop .i) (at-loop .loop .inv .1) (omega (arith, at-loop .loop .inv .0, c .loop-test .left))
-    (omega (arith, s .pre .1))
+    let l = fields-length codeIn (s .args .area .now) (s .args .n) in
+    filled-all (map codeIn (reactionsHeld (s .args .area .now) (s .args .n))) (s .args .k .now) (at-loop .loop .k) (at-loop .loop .i) (at-loop .loop .inv .1)
+    (omega (arith, at-loop .loop .inv .0, c .loop-test .left)) (omega (arith, s .pre .1))
 
 pub fill-codes-spec : {M : Type 1} → statement M
 fill-codes-spec =

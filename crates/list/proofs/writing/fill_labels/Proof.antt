@@ -1,21 +1,21 @@
 -- The invariant: i values are written.
 use Prim.Native.Nat.{_-_, _≤_}
 use mathlib.Core.List.{map}
-use Rattle.area.specs.inner.Area.{rows}
 use Rattle.list.specs.Buffers.{reachedIn}
+use Rattle.list.specs.inner.Finding.{reactionsHeld}
 use Rattle.list.proofs.Fills.{Filled, filled-none, filled-step, filled-all, fields-length, labels-at}
 use native.Mathlib.Omega.{arith}
 use Rattle.list.proofs.writing.fill_labels.Statement.{statement}
 use Rattle.list.proofs.writing.fill_labels.Tie as tie
 
 abbrev Inv-loop : tie.InvT-loop
-Inv-loop area n l₀ i₀ l i = (i ≤ n) × Filled (map reachedIn (rows area 0 n)) l₀ l i
+Inv-loop area n l₀ i₀ l i = (i ≤ n) × Filled (map reachedIn (reactionsHeld area n)) l₀ l i
 
 abbrev μ-loop : tie.MeasureT-loop
 μ-loop area n l₀ i₀ l i = n - i
 
 loop-holds : tie.Need-loop-holds Inv-loop μ-loop
-loop-holds c = (omega arith, filled-none (map reachedIn (rows (c .args .area .now) 0 (c .args .n))) (c .args .l .now))
+loop-holds c = (omega arith, filled-none (map reachedIn (reactionsHeld (c .args .area .now) (c .args .n))) (c .args .l .now))
 
 mul-l : tie.Need-mul-l Inv-loop μ-loop
 mul-l c = omega arith
@@ -45,10 +45,11 @@ loop-again : tie.Need-loop-again Inv-loop μ-loop
 loop-again c =
     let at-loop-test = c .before in
     let at-loop = at-loop-test .before in
-    let s = at-loop .before in (
+    let s = at-loop .before in
+    let v = at-loop .loop in (
       omega arith,
-      filled-step (map reachedIn (rows (s .args .area .now) 0 (s .args .n))) (s .args .l .now) (at-loop .loop .l) (at-loop .loop .i) _ (at-loop .loop .inv .1) (omega (arith, s .pre .1))
-          (labels-at (s .args .area .now) (s .args .n) (at-loop .loop .i) (at-loop-test .loop-test .taken)),
+      filled-step (map reachedIn (reactionsHeld (s .args .area .now) (s .args .n))) (s .args .l .now) (v .l) (v .i) _ (v .inv .1) (omega (arith, s .pre .1))
+          (labels-at (s .args .area .now) (s .args .n) (v .i) (at-loop-test .loop-test .taken)),
     )
 
 same-length : tie.Need-same-length Inv-loop μ-loop
@@ -58,9 +59,9 @@ returns : tie.Need-returns Inv-loop μ-loop
 returns c =
     let at-loop = c .before in
     let s = at-loop .before in
-    let l = fields-length reachedIn (s .args .area .now) 0 (s .args .n) in
-    filled-all (map reachedIn (rows (s .args .area .now) 0 (s .args .n))) (s .args .l .now) (at-loop .loop .l) (at-loop .loop .i) (at-loop .loop .inv .1) (omega (arith, at-loop .loop .inv .0, c .loop-test .left))
-    (omega (arith, s .pre .1))
+    let l = fields-length reachedIn (s .args .area .now) (s .args .n) in
+    filled-all (map reachedIn (reactionsHeld (s .args .area .now) (s .args .n))) (s .args .l .now) (at-loop .loop .l) (at-loop .loop .i) (at-loop .loop .inv .1)
+    (omega (arith, at-loop .loop .inv .0, c .loop-test .left)) (omega (arith, s .pre .1))
 
 pub fill-labels-spec : {M : Type 1} → statement M
 fill-labels-spec =

@@ -1,22 +1,22 @@
 -- The invariant: i values are written.
 use mathlib.Core.Path.{_∙_}
-use Prim.Native.Nat.{_-_, _≤_}
+use Prim.Native.Nat.{_*_, _-_, _≤_}
 use mathlib.Core.List.{map}
-use Rattle.area.specs.inner.Area.{rows}
 use Rattle.list.specs.Buffers.{emittedIn}
+use Rattle.list.specs.inner.Finding.{reactionsHeld}
 use Rattle.list.proofs.Fills.{Filled, filled-none, filled-step, filled-all, fields-length, signals-at}
 use native.Mathlib.Omega.{arith}
 use Rattle.list.proofs.writing.fill_signals.Statement.{statement}
 use Rattle.list.proofs.writing.fill_signals.Tie as tie
 
 abbrev Inv-loop : tie.InvT-loop
-Inv-loop area n o₀ i₀ o i = (i ≤ n) × Filled (map emittedIn (rows area 0 n)) o₀ o i
+Inv-loop area n o₀ i₀ o i = (i ≤ n) × Filled (map emittedIn (reactionsHeld area n)) o₀ o i
 
 abbrev μ-loop : tie.MeasureT-loop
 μ-loop area n o₀ i₀ o i = n - i
 
 loop-holds : tie.Need-loop-holds Inv-loop μ-loop
-loop-holds c = (omega arith, filled-none (map emittedIn (rows (c .before .before .args .area .now) 0 (c .before .before .args .n))) (c .before .before .args .o .now))
+loop-holds c = (omega arith, filled-none (map emittedIn (reactionsHeld (c .before .before .args .area .now) (c .before .before .args .n))) (c .before .before .args .o .now))
 
 mul-emitted-in : tie.Need-mul-emitted-in Inv-loop μ-loop
 mul-emitted-in c = omega arith
@@ -31,7 +31,7 @@ emitted-in-requires : tie.Need-emitted-in-requires Inv-loop μ-loop
 emitted-in-requires c κs = tt
 
 cast-o : tie.Need-cast-o Inv-loop μ-loop
-cast-o c = omega (arith, c .emitted-in .ensures, c .before .before .before .before .before .before .pre .2 (c .before .before .before .loop .i) (c .before .before .loop-test .taken))
+cast-o c = let e = c .emitted-in .ensures in omega (arith, c .before .shared-slice-known2 .given (2 * c .before .before .before .loop .i))
 
 mul-o : tie.Need-mul-o Inv-loop μ-loop
 mul-o c = omega arith
@@ -52,7 +52,7 @@ loop-again c =
     let s = at-loop .before .before .before in
     let a = s .args in (
       omega arith,
-      filled-step (map emittedIn (rows (a .area .now) 0 (a .n))) (a .o .now) (at-loop .loop .o) (at-loop .loop .i) _ (at-loop .loop .inv .1) (omega (arith, s .pre .1))
+      filled-step (map emittedIn (reactionsHeld (a .area .now) (a .n))) (a .o .now) (at-loop .loop .o) (at-loop .loop .i) _ (at-loop .loop .inv .1) (omega (arith, s .pre .1))
           (c .emitted-in .ensures ∙ signals-at (a .area .now) (a .n) (at-loop .loop .i) (at-loop-test .loop-test .taken)),
     )
 
@@ -63,9 +63,9 @@ returns : tie.Need-returns Inv-loop μ-loop
 returns c =
     let at-loop = c .before in
     let s = at-loop .before .before .before in
-    let l = fields-length emittedIn (s .args .area .now) 0 (s .args .n) in
-    filled-all (map emittedIn (rows (s .args .area .now) 0 (s .args .n))) (s .args .o .now) (at-loop .loop .o) (at-loop .loop .i) (at-loop .loop .inv .1) (omega (arith, at-loop .loop .inv .0, c .loop-test .left))
-    (omega (arith, s .pre .1))
+    let l = fields-length emittedIn (s .args .area .now) (s .args .n) in
+    filled-all (map emittedIn (reactionsHeld (s .args .area .now) (s .args .n))) (s .args .o .now) (at-loop .loop .o) (at-loop .loop .i) (at-loop .loop .inv .1)
+    (omega (arith, at-loop .loop .inv .0, c .loop-test .left)) (omega (arith, s .pre .1))
 
 pub fill-signals-spec : {M : Type 1} → statement M
 fill-signals-spec =

@@ -2,26 +2,24 @@
 use Prim.Native.Nat.{ℕ, _*_, _-_, _≤_}
 use mathlib.Core.Path.{subst}
 use mathlib.Core.List.{map}
-use Rattle.area.specs.inner.Area.{rows}
 use Rattle.list.specs.Buffers.{spread, reachedIn}
+use Rattle.list.specs.inner.Finding.{reactionsHeld}
 use Rattle.list.proofs.Fills.{Filled, filled-none, filled-all, filled-bytes, spread-length, fields-length, labels-at}
 use native.Mathlib.Omega.{arith}
 use Rattle.list.proofs.writing.spell_labels.Statement.{statement}
 use Rattle.list.proofs.writing.spell_labels.Tie as tie
 
 abbrev Inv-loop : tie.InvT-loop
-Inv-loop area n l₀ i₀ l i = (i ≤ n) × Filled (spread 8 (map reachedIn (rows area 0 n))) l₀ l (8 * i)
+Inv-loop area n l₀ i₀ l i = (i ≤ n) × Filled (spread 8 (map reachedIn (reactionsHeld area n))) l₀ l (8 * i)
 
 abbrev μ-loop : tie.MeasureT-loop
 μ-loop area n l₀ i₀ l i = n - i
 
 loop-holds : tie.Need-loop-holds Inv-loop μ-loop
 loop-holds c =
-    let s = c .before .before in (
-      omega arith,
-      subst (λ (z : ℕ). Filled (spread 8 (map reachedIn (rows (s .args .area .now) 0 (s .args .n)))) (s .args .l .now) (s .args .l .now) z) (omega arith)
-          (filled-none (spread 8 (map reachedIn (rows (s .args .area .now) 0 (s .args .n)))) (s .args .l .now)),
-    )
+    let s = c .before .before in
+    let vs = spread 8 (map reachedIn (reactionsHeld (s .args .area .now) (s .args .n))) in
+    (omega arith, subst (λ (z : ℕ). Filled vs (s .args .l .now) (s .args .l .now) z) (omega arith) (filled-none vs (s .args .l .now)))
 
 mul-put-bytes : tie.Need-mul-put-bytes Inv-loop μ-loop
 mul-put-bytes c = omega arith
@@ -54,10 +52,10 @@ loop-again c =
     let at-loop = at-loop-test .before in
     let s = at-loop .before .before .before in
     let a = s .args in
-    let l = fields-length reachedIn (a .area .now) 0 (a .n) in
+    let l = fields-length reachedIn (a .area .now) (a .n) in
     let t = at-loop-test .loop-test .taken in (
       omega arith,
-      filled-bytes 8 (map reachedIn (rows (a .area .now) 0 (a .n))) (a .l .now) (at-loop .loop .l) _ (at-loop .loop .i) _ (at-loop .loop .inv .1) (omega arith)
+      filled-bytes 8 (map reachedIn (reactionsHeld (a .area .now) (a .n))) (a .l .now) (at-loop .loop .l) _ (at-loop .loop .i) _ (at-loop .loop .inv .1) (omega arith)
           (labels-at (a .area .now) (a .n) (at-loop .loop .i) t) (omega (arith, s .pre .1)) (at-put-bytes .put-bytes .ensures),
     )
 
@@ -68,9 +66,9 @@ returns : tie.Need-returns Inv-loop μ-loop
 returns c =
     let at-loop = c .before in
     let s = at-loop .before .before .before in
-    let l = fields-length reachedIn (s .args .area .now) 0 (s .args .n) in
-    let k = spread-length 8 (map reachedIn (rows (s .args .area .now) 0 (s .args .n))) in
-    filled-all (spread 8 (map reachedIn (rows (s .args .area .now) 0 (s .args .n)))) (s .args .l .now) (at-loop .loop .l) (8 * at-loop .loop .i) (at-loop .loop .inv .1)
+    let l = fields-length reachedIn (s .args .area .now) (s .args .n) in
+    let k = spread-length 8 (map reachedIn (reactionsHeld (s .args .area .now) (s .args .n))) in
+    filled-all (spread 8 (map reachedIn (reactionsHeld (s .args .area .now) (s .args .n)))) (s .args .l .now) (at-loop .loop .l) (8 * at-loop .loop .i) (at-loop .loop .inv .1)
     (omega (arith, at-loop .loop .inv .0, c .loop-test .left)) (omega (arith, s .pre .1))
 
 pub spell-labels-spec : {M : Type 1} → statement M

@@ -1,0 +1,4 @@
+-- What inner functions ask of and leave to each other.
+pub mod Notes
+pub mod Slots
+pub mod Joins
