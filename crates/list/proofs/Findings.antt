@@ -40,8 +40,8 @@ mark-resumed (suc mark) X h = refl
 
 -- the rows of a statement that is no deeper than 60
 pub made-in : {a b : List ℕ} {n : ℕ} (M : ℕ) (p : Statement) (E : ℕ) {x y : State} → x ≡ y → depth p ≤ 60
-    → Made a b 0 (0 + roomFor p) (cappedRows M p x E 0) n → Made a b 0 7940 (cappedRows M p y E 0) n
-made-in M p E e h m = made-as (made-need 7940 m (omega arith)) (ap (λ (z : State). cappedRows M p z E 0) e)
+    → Made a b 0 (0 + roomFor p) (cappedRows M p x E 0) n → Made a b 0 7810 (cappedRows M p y E 0) n
+made-in M p E e h m = made-as (made-need 7810 m (omega arith)) (ap (λ (z : State). cappedRows M p z E 0) e)
 
 -- ---- copying
 -- the first i words are copied
@@ -59,7 +59,7 @@ copying-step large a₀ a i c h = record { same-length = length-set a i (getD la
         let s = c .same-length in
         ap (λ (z : ℕ). getD (set a i (getD large i 0)) z 0) e ∙ getD-set-same a i (getD large i 0) 0 (omega arith) ∙ ap (λ (z : ℕ). getD large z 0) (sym e)
 
-pub made-copied : {l₀ l a b : List ℕ} {n : ℕ} {v : CappedRows} → Made l₀ l 0 7940 v n → 7940 ≤ length l₀ → 128 ≤ length a → Copied l a b n → Made a b 0 0 v n
+pub made-copied : {l₀ l a b : List ℕ} {n : ℕ} {v : CappedRows} → Made l₀ l 0 7810 v n → 7810 ≤ length l₀ → 128 ≤ length a → Copied l a b n → Made a b 0 0 v n
 made-copied {l₀} {l} {a} {b} {n} m h k c = record {
   same = c .same-length;
   low = λ i q. absurd (omega arith);
@@ -74,10 +74,10 @@ made-copied {l₀} {l} {a} {b} {n} m h k c = record {
     there q = rows-agree l b 0 n (λ i u w. c .copied q i (omega arith))
 
 -- the area was large enough, or another one was
-pub made-first : {a b : List ℕ} {n : ℕ} {v : CappedRows} → Made a b 0 7940 v n → n ≤ 65 → Made a b 0 0 v n
+pub made-first : {a b : List ℕ} {n : ℕ} {v : CappedRows} → Made a b 0 7810 v n → n ≤ 65 → Made a b 0 0 v n
 made-first m h = record { same = m .same; low = m .low; fits = m .fits; listed = m .listed; rising = m .rising; over = m .over; cramped = λ k. absurd (omega arith) }
 
-pub made-again : {a b c : List ℕ} {n r : ℕ} {v w : CappedRows} → Made a b 0 7940 w n → Made b c 0 0 v r → Made a c 0 0 v r
+pub made-again : {a b c : List ℕ} {n r : ℕ} {v w : CappedRows} → Made a b 0 7810 w n → Made b c 0 0 v r → Made a c 0 0 v r
 made-again m p =
     let e = m .same in
     record {

@@ -18,7 +18,7 @@ ghost use Rattle.list.specs.inner.Preparing.{stateIn, Listable, limited,
 ghost use Rattle.list.specs.inner.Finding.{Copied, answerFor, Finds};
 
 // The words of an area that is never too small.
-const LARGE: usize = 7940;
+const LARGE: usize = 7810;
 
 // The rows of a prepared table, as the lister leaves them; with no signal unknown they are the reactions.
 fn rows_in(
@@ -31,7 +31,7 @@ fn rows_in(
     area: &mut [u64],
 ) -> usize
     requires { ⌜ Listable (now nodes) (now ends) (now pauses) slotted ⌝ }
-    ensures { λ r. ⌜ Made (now (area .entry)) (now (area .exit)) 0 7940 (cappedRows slotted (statementOf (now (nodes .entry))) (stateIn state) assumed 0) r ⌝ }
+    ensures { λ r. ⌜ Made (now (area .entry)) (now (area .exit)) 0 7810 (cappedRows slotted (statementOf (now (nodes .entry))) (stateIn state) assumed 0) r ⌝ }
 {
     match state {
         State::Start => start(nodes, ends, 0, assumed, 0, slotted, area, 0),
@@ -77,7 +77,7 @@ fn rows_through(
     area: &mut [u64],
     large: &mut [u64],
 ) -> usize
-    requires { ⌜ (128 ≤ length (now area)) × (7940 ≤ length (now large)) × Listable (now nodes) (now ends) (now pauses) slotted ⌝ }
+    requires { ⌜ (128 ≤ length (now area)) × (7810 ≤ length (now large)) × Listable (now nodes) (now ends) (now pauses) slotted ⌝ }
     ensures { λ r. ⌜ Made (now (area .entry)) (now (area .exit)) 0 0 (cappedRows slotted (statementOf (now (nodes .entry))) (stateIn state) assumed 0) r ⌝ }
 {
     let n = rows_in(nodes, ends, pauses, slotted, assumed, state, large);

@@ -20,6 +20,7 @@ use Rattle.esterel.specs.inner.Conditions.{always}
 use Rattle.esterel.specs.inner.Rows.{Row, rowWhen, sure, onlyRows}
 use Rattle.esterel.specs.inner.CappedRows.{CappedRows, joinRows, thenRows, besideRows, givenUp, cappedRows}
 use Rattle.esterel.proofs.AbsentRows.{absent-rows}
+use Rattle.table.proofs.Nodes.{depth-positive}
 use Rattle.table.specs.Reading.{kindOfNode, operandOf}
 use Rattle.table.specs.inner.Places.{Placed, placed}
 use Rattle.area.specs.declared.Pairing.the-variants.{Parallel}
@@ -96,11 +97,11 @@ module _ {xs : List ℕ} {at i n : ℕ} (k : Child n xs at i) where
   module _ {a₀ a b : List ℕ} {base n₁ n₂ top : ℕ} {v w : CappedRows} (m : Made a₀ a base (base + roomFor (partAt xs at)) v n₁) (t : Above a base n₁ top)
       (p : Made a b top (top + roomFor (partAt xs i)) w n₂) where
     pub beside-child : n₁ ≤ 64 → Beside b base n₁ n₂
-    beside-child h = beside-top m t (omega (arith, k .less)) p (λ l e. omega (arith, k .less)) h
+    beside-child h = beside-top m t (omega (arith, k .less, depth-positive (partAt xs i))) p (λ l e. omega (arith, k .less)) h
 
     pub joined-child : (g : List Row → List Row → List Row) {c : List ℕ} {r : ℕ} → base ≤ length a₀ → MadeOne g b c base n₁ n₂ r
         → Made a₀ c base (base + roomFor (partAt xs at)) (joinRows g v w) r
-    joined-child g l x = joined m t (omega (arith, k .less)) g p (λ h e. omega (arith, k .less)) l x
+    joined-child g l x = joined m t (omega (arith, k .less, depth-positive (partAt xs i))) g p (λ h e. omega (arith, k .less)) l x
 
 module _ {xs ends : List ℕ} {at : ℕ} (ready : Startable xs ends at) (M X E U : ℕ) where
   abbrev here : CappedRows

@@ -15,7 +15,7 @@ use Rattle.area.specs.inner.Area.{rows, InOrder, Made, Merged}
 
 -- so many words are enough to list a statement
 abbrev pub roomFor : Statement → ℕ
-roomFor p = 128 * depth p + 260
+roomFor p = 128 * depth p + 130
 
 -- from a to b the rows of p, in the state x under E with U unknown, were made at base
 abbrev pub MadeRows : ℕ → Statement → State → ℕ → ℕ → List ℕ → List ℕ → ℕ → ℕ → Type 0

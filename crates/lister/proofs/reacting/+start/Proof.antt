@@ -13,6 +13,7 @@ use Rattle.esterel.specs.Statement.{depth}
 use Rattle.esterel.specs.Reactions.{start as started}
 use Rattle.esterel.specs.Trimming.{names}
 use Rattle.esterel.specs.inner.CappedRows.{CappedRows, changeRows, cappedRows}
+use Rattle.table.proofs.Nodes.{depth-positive}
 use Rattle.table.specs.Reading.{kindOfNode, operandOf}
 use Rattle.table.proofs.Places.{above-ten}
 use Rattle.area.specs.declared.Change.{Change}
@@ -148,7 +149,7 @@ module _ (t : ℕ) (s : start-lts.Start (claims t) (start-at t) start.Post) wher
   less-room k = omega (arith, k .less)
 
   wide : {i : ℕ} → Below i → s .args .base + 386 ≤ room
-  wide k = omega (arith, k .less)
+  wide {i} k = omega (arith, k .less, depth-positive (partAt nodes i))
 
   -- the list of a child, at base, in room for the whole
   within-room : {i : ℕ} → Below i → {a b : List ℕ} {n : ℕ} {v : CappedRows} → Made a b (s .args .base) (s .args .base + roomFor (partAt nodes i)) v n → Made a b (s .args .base) room v n

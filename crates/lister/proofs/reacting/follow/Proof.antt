@@ -3,6 +3,7 @@ use native.Mathlib.Omega.{arith}
 use Prim.Native.Nat.{_+_}
 use mathlib.Core.Path.{refl}
 use borrow.Author.Tests.{not-true, not-false}
+use Rattle.table.proofs.Nodes.{depth-positive}
 use Rattle.area.proofs.Made.{made-need}
 use Rattle.lister.specs.inner.Notes.{partAt}
 use Rattle.lister.specs.inner.Joins.{roomFor}
@@ -57,7 +58,7 @@ returns-2 c =
     let h = ending-small (f .some-ends .ensures .1) (not-false _ (e .if1 .left)) in
     record {
       small = λ k. followed-by (standing-made (s .pre .0) h) _ (f .some-ends .ensures) (standing-free (a .area .now) (a .base) (a .n) (s .pre .0) h) (not-false _ (e .if1 .left))
-          (made-need (a .base + 128 + roomFor (partAt (a .nodes .now) (a .at))) (g .start .ensures) (omega (arith, h))) (omega arith) (c .before .before .product .ensures);
+          (made-need (a .base + 128 + roomFor (partAt (a .nodes .now) (a .at))) (g .start .ensures) (omega (arith, h))) (omega (arith, depth-positive (partAt (a .nodes .now) (a .at)))) (c .before .before .product .ensures);
       large = λ k. absurd (omega (arith, h));
     }
 

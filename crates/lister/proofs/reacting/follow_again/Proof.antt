@@ -4,6 +4,7 @@ use Prim.Native.Nat.{ℕ, _+_, _≤_}
 use mathlib.Core.Path.{refl}
 use mathlib.Core.List.{List}
 use borrow.Author.Tests.{not-true, not-false}
+use Rattle.table.proofs.Nodes.{depth-positive}
 use Rattle.esterel.specs.Statement.{Statement}
 use Rattle.esterel.specs.Reactions.{start as started}
 use Rattle.esterel.specs.inner.Rows.{goingRows}
@@ -81,7 +82,7 @@ returns-2 c =
     record {
       small = λ k. followed-by (standing-made (s .pre .0) h) _ (f .some-ends .ensures) (standing-free (a .area .now) (a .base) (a .n) (s .pre .0) h) (not-false _ (e .if1 .left))
           (going-made (partAt (a .nodes .now) (a .at)) (a .assumed) (s .pre .2) (a .base + 128 + roomFor (partAt (a .nodes .now) (a .at))) (g .start .ensures) (omega (arith, h)) (x .alter .ensures))
-          (omega arith) (c .before .before .product .ensures);
+          (omega (arith, depth-positive (partAt (a .nodes .now) (a .at)))) (c .before .before .product .ensures);
       large = λ k. absurd (omega (arith, h));
     }
 
