@@ -22,7 +22,7 @@ ghost use Rattle.list.specs.inner.Preparing.{stateIn, NodeRoom};
 ghost use Rattle.list.specs.inner.Finding.{ListsIn, ListsBytesIn};
 
 // The words of the area that is tried first.
-const SMALL: usize = 512;
+const SMALL: usize = 256;
 
 // List's answer: the number of the refusal, or how many reactions there are.
 pub enum Answer {

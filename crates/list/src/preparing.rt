@@ -81,5 +81,8 @@ pub fn prepare(
     if marking::MOST_NESTED < nest {
         return Prepared::Refused(14);
     }
+    if nest == 0 {
+        return Prepared::Accepted(0);
+    }
     Prepared::Accepted(slotted(nodes, count))
 }
