@@ -4,8 +4,8 @@ use mathlib.Core.Path.{refl}
 use Rattle.list.proofs.Limits.{prepared-checked, loaded-counted, marked-nest, prepared-deep, prepared-listable}
 use Rattle.list.proofs.Slotting.{taken-none, taken-slotted}
 use borrow.Author.Needs.{needs}
-use Rattle.list.proofs.preparing.prepare.Statement.{statement}
-use Rattle.list.proofs.preparing.prepare.Tie as tie
+use Rattle.list.proofs.preparing.prepare_with.Statement.{statement}
+use Rattle.list.proofs.preparing.prepare_with.Tie as tie
 
 load-requires : tie.Need-load-requires
 load-requires c κs = search needs
@@ -93,8 +93,8 @@ returns-5 c =
     prepared-listable (s .args .table .now) (s .args .nodes .now) _ (at-load .load .result) (at-load .load .ensures) _ (at-checked .checked .given .1) d (at-mark-front .mark-front .ensures) _ refl
     (at-if2 .if2 .left) _ (c .slotted .ensures)
 
-pub prepare-spec : {M : Type 1} → statement M
-prepare-spec =
+pub prepare-with-spec : {M : Type 1} → statement M
+prepare-with-spec =
     tie.close
     (tie.spec
     load-requires
