@@ -151,14 +151,13 @@ pub fn find(
     state: State,
     nodes: &mut [u16; MOST_NODES],
     ends: &mut [u16; MOST_NODES],
-    nests: &mut [u8; MOST_NODES],
     pauses: &mut [u64; MOST_NODES],
     area: &mut [u64],
 ) -> Answer
     requires { ⌜ (128 ≤ length (now area)) × NodeRoom (now nodes) ⌝ }
     ensures { λ r. ⌜ Finds (listAt (tableOf (now (table .entry))) (stateIn state) assumed) r (now (area .entry)) (now (area .exit)) ⌝ }
 {
-    let prepared = prepare(table, nodes, ends, nests, pauses);
+    let prepared = prepare(table, nodes, ends, pauses);
     match prepared {
         Prepared::Refused(why) => Answer::Refused(why),
         Prepared::Accepted(slotted) => reactions(

@@ -73,14 +73,13 @@ fn list_with(
     l: &mut [u64],
     nodes: &mut [u16; MOST_NODES],
     ends: &mut [u16; MOST_NODES],
-    nests: &mut [u8; MOST_NODES],
     pauses: &mut [u64; MOST_NODES],
     area: &mut [u64],
 ) -> Answer
     requires { ⌜ (128 ≤ length (now area)) × NodeRoom (now nodes) ⌝ }
     ensures { λ r. ⌜ ListsIn (now (table .entry)) assumed (stateIn state) r (now (o .entry)) (now (o .exit)) (now (k .entry)) (now (k .exit)) (now (l .entry)) (now (l .exit)) ⌝ }
 {
-    let answer = finding::find(table, assumed, state, nodes, ends, nests, pauses, area);
+    let answer = finding::find(table, assumed, state, nodes, ends, pauses, area);
     let Answer::Listed(n) = answer else {
         return answer;
     };
@@ -101,7 +100,6 @@ pub fn list(
 {
     let mut nodes = [0u16; MOST_NODES];
     let mut ends = [0u16; MOST_NODES];
-    let mut nests = [0u8; MOST_NODES];
     let mut pauses = [0u64; MOST_NODES];
     let mut area = [0u64; SMALL];
     let state = state_of(mark, labels);
@@ -114,7 +112,6 @@ pub fn list(
         l,
         &mut nodes,
         &mut ends,
-        &mut nests,
         &mut pauses,
         &mut area,
     )
@@ -129,14 +126,13 @@ fn list_bytes_with(
     l: &mut [u8],
     nodes: &mut [u16; MOST_NODES],
     ends: &mut [u16; MOST_NODES],
-    nests: &mut [u8; MOST_NODES],
     pauses: &mut [u64; MOST_NODES],
     area: &mut [u64],
 ) -> Answer
     requires { ⌜ (128 ≤ length (now area)) × NodeRoom (now nodes) ⌝ }
     ensures { λ r. ⌜ ListsBytesIn (now (table .entry)) assumed (stateIn state) r (now (o .entry)) (now (o .exit)) (now (k .entry)) (now (k .exit)) (now (l .entry)) (now (l .exit)) ⌝ }
 {
-    let answer = finding::find(table, assumed, state, nodes, ends, nests, pauses, area);
+    let answer = finding::find(table, assumed, state, nodes, ends, pauses, area);
     let Answer::Listed(n) = answer else {
         return answer;
     };
@@ -157,7 +153,6 @@ pub fn list_bytes(
 {
     let mut nodes = [0u16; MOST_NODES];
     let mut ends = [0u16; MOST_NODES];
-    let mut nests = [0u8; MOST_NODES];
     let mut pauses = [0u64; MOST_NODES];
     let mut area = [0u64; SMALL];
     let state = state_of(mark, labels);
@@ -170,7 +165,6 @@ pub fn list_bytes(
         l,
         &mut nodes,
         &mut ends,
-        &mut nests,
         &mut pauses,
         &mut area,
     )

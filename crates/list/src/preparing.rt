@@ -57,8 +57,8 @@ fn slotted(nodes: &[u16; MOST_NODES], count: usize) -> u64
     set
 }
 
-// A table made ready in the lent rooms, or check's refusals and 14.
-pub fn prepare(
+// A table made ready, with room lent for the nestings, of which only the root's is asked.
+fn prepare_with(
     table: &[u8],
     nodes: &mut [u16; MOST_NODES],
     ends: &mut [u16; MOST_NODES],
@@ -81,5 +81,22 @@ pub fn prepare(
     if marking::MOST_NESTED < nest {
         return Prepared::Refused(14);
     }
+    if nest == 0 {
+        return Prepared::Accepted(0);
+    }
     Prepared::Accepted(slotted(nodes, count))
+}
+
+// A table made ready in the lent rooms, or check's refusals and 14.
+pub fn prepare(
+    table: &[u8],
+    nodes: &mut [u16; MOST_NODES],
+    ends: &mut [u16; MOST_NODES],
+    pauses: &mut [u64; MOST_NODES],
+) -> Prepared
+    requires { ⌜ NodeRoom (now nodes) ⌝ }
+    ensures { λ r. ⌜ Prepares (tableOf (now (table .entry))) r (now (nodes .exit)) (now (ends .exit)) (now (pauses .exit)) ⌝ }
+{
+    let mut nests = [0u8; MOST_NODES];
+    prepare_with(table, nodes, ends, &mut nests, pauses)
 }

@@ -25,10 +25,11 @@ ghost use Rattle.esterel.specs.Trimming.{names as namesIn};
 ghost use Rattle.esterel.specs.inner.Conditions.{slotOf};
 ghost use Rattle.esterel.specs.inner.Rows.{rowWhen, reactions};
 ghost use Rattle.esterel.specs.inner.CappedRows.{cappedRows};
+ghost use Rattle.area.specs.declared.Change.the-variants.{Hide, Local, Given, Going, Caught};
 ghost use Rattle.area.specs.declared.Pairing.the-variants.{Parallel};
 ghost use Rattle.area.specs.inner.Layout.{conditionIn};
 ghost use Rattle.area.specs.inner.Rules.{product};
-ghost use Rattle.area.specs.inner.Area.{rows, Made, Beside};
+ghost use Rattle.area.specs.inner.Area.{rows, Made, Altered, Beside};
 ghost use Rattle.lister.specs.inner.Notes.{partAt, namesAt, Startable, Resumable};
 ghost use Rattle.lister.specs.inner.Slots.{Slotted};
 ghost use Rattle.lister.specs.inner.Joins.{MadeRows, Above, MadeOne, Standing, FollowedBy, FollowedAgain};
@@ -176,6 +177,43 @@ fn some_ends(area: &[u64], base: usize, n: usize) -> bool
     area::some_ends(area, base, n)
 }
 
+// The n rows at base changed, each change by a function of its own: what is handed to `alter` then takes no room in the frames of
+// the recursions.
+fn hide_signal(area: &mut [u64], base: usize, n: usize, signal: u8) -> usize
+    requires { ⌜ (n ≤ 64 → base + 2 * n ≤ length (now area)) ⌝ }
+    ensures { λ r. ⌜ Altered (Hide signal) (now (area .entry)) (now (area .exit)) base n r ⌝ }
+{
+    area::alter(area, base, n, Change::Hide(signal))
+}
+
+fn hide_unknown(area: &mut [u64], base: usize, n: usize, signal: u8, slot: u8) -> usize
+    requires { ⌜ (n ≤ 64 → base + 2 * n ≤ length (now area)) ⌝ }
+    ensures { λ r. ⌜ Altered (Local signal slot) (now (area .entry)) (now (area .exit)) base n r ⌝ }
+{
+    area::alter(area, base, n, Change::Local(signal, slot))
+}
+
+fn add_condition(area: &mut [u64], base: usize, n: usize, condition: u64) -> usize
+    requires { ⌜ (n ≤ 64 → base + 2 * n ≤ length (now area)) ⌝ }
+    ensures { λ r. ⌜ Altered (Given condition) (now (area .entry)) (now (area .exit)) base n r ⌝ }
+{
+    area::alter(area, base, n, Change::Given(condition))
+}
+
+fn keep_going(area: &mut [u64], base: usize, n: usize) -> usize
+    requires { ⌜ (n ≤ 64 → base + 2 * n ≤ length (now area)) ⌝ }
+    ensures { λ r. ⌜ Altered Going (now (area .entry)) (now (area .exit)) base n r ⌝ }
+{
+    area::alter(area, base, n, Change::Going)
+}
+
+fn catch_exits(area: &mut [u64], base: usize, n: usize) -> usize
+    requires { ⌜ (n ≤ 64 → base + 2 * n ≤ length (now area)) ⌝ }
+    ensures { λ r. ⌜ Altered Caught (now (area .entry)) (now (area .exit)) base n r ⌝ }
+{
+    area::alter(area, base, n, Change::Caught)
+}
+
 // The rows of a started statement.
 pub fn start(
     nodes: &[u16; MOST_NODES],
@@ -211,7 +249,7 @@ pub fn start(
                 let more = sets::with(unknown, operand);
                 let n = start(nodes, ends, first, assumed, more, slotted, area, base);
                 let slot = slot_of(slotted, operand);
-                let m = area::alter(area, base, n, Change::Local(operand, slot));
+                let m = hide_unknown(area, base, n, operand, slot);
                 if m != area::OVER {
                     return m;
                 }
@@ -221,7 +259,7 @@ pub fn start(
             }
             let with = sets::with(assumed, operand);
             let n = start(nodes, ends, first, with, 0, slotted, area, base);
-            let n1 = area::alter(area, base, n, Change::Hide(operand));
+            let n1 = hide_signal(area, base, n, operand);
             let top = above(area, base, n1);
             let without = sets::without(assumed, operand);
             let n2 = start(nodes, ends, first, without, 0, slotted, area, top);
@@ -232,10 +270,10 @@ pub fn start(
             if sets::contains(unknown, operand) {
                 let slot = slot_of(slotted, operand);
                 let n = start(nodes, ends, first, assumed, unknown, slotted, area, base);
-                let n1 = area::alter(area, base, n, Change::Given(area::on_slot(slot)));
+                let n1 = add_condition(area, base, n, area::on_slot(slot));
                 let top = above(area, base, n1);
                 let m = start(nodes, ends, second, assumed, unknown, slotted, area, top);
-                let n2 = area::alter(area, top, m, Change::Given(area::off_slot(slot)));
+                let n2 = add_condition(area, top, m, area::off_slot(slot));
                 return either(area, base, n1, n2);
             }
             if sets::contains(assumed, operand) {
@@ -262,11 +300,11 @@ pub fn start(
         }
         table::LOOP => {
             let n = start(nodes, ends, first, assumed, unknown, slotted, area, base);
-            area::alter(area, base, n, Change::Going)
+            keep_going(area, base, n)
         }
         table::TRY => {
             let n = start(nodes, ends, first, assumed, unknown, slotted, area, base);
-            area::alter(area, base, n, Change::Caught)
+            catch_exits(area, base, n)
         }
         11..=15 => area::REFUSED,
         _ => area::REFUSED,
@@ -324,7 +362,7 @@ fn follow_again(
     }
     let top = base + 2 * n;
     let started = start(nodes, ends, at, assumed, unknown, slotted, area, top);
-    let n2 = area::alter(area, top, started, Change::Going);
+    let n2 = keep_going(area, top, started);
     area::product(area, base, n, n2, Pairing::Sequence)
 }
 
@@ -389,7 +427,7 @@ pub fn resume(
                     base,
                 );
                 let slot = slot_of(slotted, operand);
-                let m = area::alter(area, base, n, Change::Local(operand, slot));
+                let m = hide_unknown(area, base, n, operand, slot);
                 if m != area::OVER {
                     return m;
                 }
@@ -410,7 +448,7 @@ pub fn resume(
                 area,
                 base,
             );
-            let n1 = area::alter(area, base, n, Change::Hide(operand));
+            let n1 = hide_signal(area, base, n, operand);
             let top = above(area, base, n1);
             let without = sets::without(assumed, operand);
             let n2 = resume(
@@ -570,7 +608,7 @@ pub fn resume(
                 area,
                 base,
             );
-            area::alter(area, base, n, Change::Caught)
+            catch_exits(area, base, n)
         }
         11..=15 => area::REFUSED,
         _ => area::REFUSED,

@@ -32,8 +32,8 @@ unfolding listOf
 returns c =
     let at-o = c .before .before .before .before .before .before in
     let at-list-with = at-o .before in
-    let at-list-with-arg3 = at-list-with .before .before .before .before .before .before in
-    let at-state-of = at-list-with-arg3 .before .before .before in
+    let at-list-with-arg2 = at-list-with .before .before .before .before .before .before in
+    let at-state-of = at-list-with-arg2 .before .before in
     let s = at-state-of .before .before .before .before .before in
     delivered-as (at-list-with .list-with .ensures)
     (ap (fitted (length (s .args .o .now)) (length (s .args .k .now)) (length (s .args .l .now)))

@@ -33,8 +33,8 @@ unfolding listOf
 returns c =
     let at-o = c .before .before .before .before .before .before in
     let at-list-bytes-with = at-o .before in
-    let at-list-bytes-with-arg3 = at-list-bytes-with .before .before .before .before .before .before in
-    let at-state-of = at-list-bytes-with-arg3 .before .before .before in
+    let at-list-bytes-with-arg2 = at-list-bytes-with .before .before .before .before .before .before in
+    let at-state-of = at-list-bytes-with-arg2 .before .before in
     let s = at-state-of .before .before .before .before .before in
     bytes-as (at-list-bytes-with .list-bytes-with .ensures)
     (ap (fitted (length (s .args .o .now) / 4) (length (s .args .k .now)) (length (s .args .l .now) / 8))

@@ -37,13 +37,15 @@ use borrow.Fn.PlainCycle.{Measures, is, falls, and}
 use Rattle.lister.proofs.reacting.resume.Reads as resume
 use Rattle.lister.proofs.reacting.resume.Kinds as resume-kinds
 use Rattle.lister.proofs.reacting.+resume.Lts-resume as resume-lts
-use Rattle.area.proofs.alter.Reads as alter-reads
 use Rattle.lister.proofs.reacting.above.Reads as above-reads
 use Rattle.lister.proofs.reacting.alone.Reads as alone-reads
 use Rattle.lister.proofs.reacting.either.Reads as either-reads
 use Rattle.lister.proofs.reacting.follow.Reads as follow-reads
 use Rattle.lister.proofs.reacting.follow_again.Reads as follow-again-reads
 use Rattle.lister.proofs.reacting.named.Reads as named-reads
+use Rattle.lister.proofs.reacting.hide_unknown.Reads as hide-unknown-reads
+use Rattle.lister.proofs.reacting.hide_signal.Reads as hide-signal-reads
+use Rattle.lister.proofs.reacting.catch_exits.Reads as catch-exits-reads
 use Rattle.lister.proofs.reacting.slot_of.Reads as slot-of-reads
 use Rattle.lister.proofs.reacting.together.Reads as together-reads
 use Rattle.sets.proofs.contains.Reads as contains-reads
@@ -81,8 +83,10 @@ claims t = (
   with-reads.Learnt,
   slot-of-reads.Asked,
   slot-of-reads.Learnt,
-  alter-reads.Asked,
-  alter-reads.Learnt,
+  hide-unknown-reads.Asked,
+  hide-unknown-reads.Learnt,
+  hide-signal-reads.Asked,
+  hide-signal-reads.Learnt,
   above-reads.Asked,
   above-reads.Learnt,
   without-reads.Asked,
@@ -95,6 +99,8 @@ claims t = (
   together-reads.Learnt,
   follow-again-reads.Asked,
   follow-again-reads.Learnt,
+  catch-exits-reads.Asked,
+  catch-exits-reads.Learnt,
 )
 
 -- ---- what is known at the entry
@@ -370,8 +376,8 @@ module _ (t : ℕ) where
       let g = c .before .before in
       below-64 t (arm t (g .before .before .before .before) .before)
 
-  alter-requires : resume-lts.Need-alter-requires (claims t) (resume-at t) resume.Post
-  alter-requires c κs = let g = c .before .before .before .before in λ h. omega (arith, g .resume2 .ensures .fits h, g .resume2 .ensures .same)
+  hide-unknown-requires : resume-lts.Need-hide-unknown-requires (claims t) (resume-at t) resume.Post
+  hide-unknown-requires c κs = let g = c .before .before .before .before in λ h. omega (arith, g .resume2 .ensures .fits h, g .resume2 .ensures .same)
 
   returns-4 : resume-lts.Need-returns-4 (claims t) (resume-at t) resume.Post
   returns-4 c =
@@ -384,7 +390,7 @@ module _ (t : ℕ) where
       let a = s .args in
       signal-tried (ready t s .ready) (signal-key t (arm t x)) (signal t x) (operand-is t (arm t x .before)) (a .slotted) (state t s) (a .assumed) (a .unknown)
       (sym (x .contains .ensures) ∙ w .before .if4 .taken) (i .slot-of .result) (w .with .result) (i .slot-of .ensures) (w .with .ensures)
-      (changed-child t s (Local (signal t x) (i .slot-of .result)) (body t (arm t x)) (g .resume2 .ensures) (l .alter .ensures)) (is-named t x) (c .if5 .taken)
+      (changed-child t s (Local (signal t x) (i .slot-of .result)) (body t (arm t x)) (g .resume2 .ensures) (l .hide-unknown .ensures)) (is-named t x) (c .if5 .taken)
 
   same-length-2 : resume-lts.Need-same-length-2 (claims t) (resume-at t) resume.Post
   same-length-2 c = returns-4 c .same
@@ -412,8 +418,8 @@ module _ (t : ℕ) where
       let m = arm t (j .before) in
       (falls-to t s (body t m), (still-short t j, resumable-at (ready t s) (body t m), slotted-none (slots t s)))
 
-  alter-requires-2 : resume-lts.Need-alter-requires-2 (claims t) (resume-at t) resume.Post
-  alter-requires-2 c κs = let g = c .before .before .before in λ h. omega (arith, g .resume3 .ensures .fits h, g .resume3 .ensures .same)
+  hide-signal-requires : resume-lts.Need-hide-signal-requires (claims t) (resume-at t) resume.Post
+  hide-signal-requires c κs = let g = c .before .before .before in λ h. omega (arith, g .resume3 .ensures .fits h, g .resume3 .ensures .same)
 
   above-requires : resume-lts.Need-above-requires (claims t) (resume-at t) resume.Post
   above-requires c κs =
@@ -421,7 +427,7 @@ module _ (t : ℕ) where
       let g = l .before .before .before .before in
       let j = g .before .before .before .before in
       let b = body t (arm t (j .before)) in
-      let m = changed-child t (origin t j) (Hide (signal t (j .before))) b (g .resume3 .ensures) (l .alter2 .ensures) in
+      let m = changed-child t (origin t j) (Hide (signal t (j .before))) b (g .resume3 .ensures) (l .hide-signal .ensures) in
       (omega (arith, still-short t j, m .same), λ h. omega (arith, m .fits h, m .same))
 
   without-requires : resume-lts.Need-without-requires (claims t) (resume-at t) resume.Post
@@ -445,7 +451,7 @@ module _ (t : ℕ) where
       let g = l .before .before .before .before in
       let j = g .before .before .before .before in
       let b = body t (arm t (j .before)) in
-      let m = changed-child t (origin t j) (Hide (signal t (j .before))) b (g .resume3 .ensures) (l .alter2 .ensures) in
+      let m = changed-child t (origin t j) (Hide (signal t (j .before))) b (g .resume3 .ensures) (l .hide-signal .ensures) in
       beside-child b m (u .above .ensures) (i .resume4 .ensures)
 
   mul-second : resume-lts.Need-mul-second (claims t) (resume-at t) resume.Post
@@ -646,8 +652,8 @@ module _ (t : ℕ) where
       let s = begun t (k .before) in
       (falls-to t s (try-part t k), (short t s, resumable-at (ready t s) (try-part t k), slots t s))
 
-  alter-requires-3 : resume-lts.Need-alter-requires-3 (claims t) (resume-at t) resume.Post
-  alter-requires-3 c κs = let g = c .before .before .before in λ h. omega (arith, g .resume13 .ensures .fits h, g .resume13 .ensures .same)
+  catch-exits-requires : resume-lts.Need-catch-exits-requires (claims t) (resume-at t) resume.Post
+  catch-exits-requires c κs = let g = c .before .before .before in λ h. omega (arith, g .resume13 .ensures .fits h, g .resume13 .ensures .same)
 
   returns-8 : resume-lts.Need-returns-8 (claims t) (resume-at t) resume.Post
   returns-8 c =
@@ -695,7 +701,7 @@ module _ (t : ℕ) where
       let g = l .before .before .before .before in
       let j = g .before .before .before .before in
       let b = body t (arm t (j .before)) in
-      let m = changed-child t (origin t j) (Hide (signal t (j .before))) b (g .resume3 .ensures) (l .alter2 .ensures) in
+      let m = changed-child t (origin t j) (Hide (signal t (j .before))) b (g .resume3 .ensures) (l .hide-signal .ensures) in
       let s = origin t j in
       let a = s .args in
       let k = arm t (j .before) in
@@ -774,7 +780,7 @@ module _ (t : ℕ) where
       let k = g .before .before in
       let s = begun t (k .before) in
       let a = s .args in
-      list-try (ready t s .ready) (a .slotted) (a .assumed) (a .unknown) (state t s) (slots t s .within) (try-key t k) (changed-child t s Caught (try-part t k) (g .resume13 .ensures) (x .alter3 .ensures))
+      list-try (ready t s .ready) (a .slotted) (a .assumed) (a .unknown) (state t s) (slots t s .within) (try-key t k) (changed-child t s Caught (try-part t k) (g .resume13 .ensures) (x .catch-exits .ensures))
 
   same-length-12 : resume-lts.Need-same-length-12 (claims t) (resume-at t) resume.Post
   same-length-12 c = returns-18 c .same
@@ -820,14 +826,14 @@ pub +resume-spec : {M : Type 1} → statement M
     (with-requires t)
     (resume-requires-2 t)
     (slot-of-requires t)
-    (alter-requires t)
+    (hide-unknown-requires t)
     (same-length-2 t)
     (returns-4 t)
     (same-length-3 t)
     (returns-5 t)
     (with-requires-2 t)
     (resume-requires-3 t)
-    (alter-requires-2 t)
+    (hide-signal-requires t)
     (above-requires t)
     (without-requires t)
     (resume-requires-4 t)
@@ -866,7 +872,7 @@ pub +resume-spec : {M : Type 1} → statement M
     (resume-requires-12 t)
     (follow-again-requires t)
     (resume-requires-13 t)
-    (alter-requires-3 t)
+    (catch-exits-requires t)
     (returns-8 t)
     (same-length-6 t)
     (returns-9 t)

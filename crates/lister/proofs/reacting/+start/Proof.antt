@@ -37,7 +37,6 @@ use borrow.Fn.PlainCycle.{Measures, is, falls, and}
 use Rattle.lister.proofs.reacting.start.Reads as start
 use Rattle.lister.proofs.reacting.start.Kinds as start-kinds
 use Rattle.lister.proofs.reacting.+start.Lts-start as start-lts
-use Rattle.area.proofs.alter.Reads as alter-reads
 use Rattle.area.proofs.off_slot.Reads as off-slot-reads
 use Rattle.area.proofs.on_slot.Reads as on-slot-reads
 use Rattle.area.proofs.product.Reads as product-reads
@@ -47,6 +46,11 @@ use Rattle.lister.proofs.reacting.either.Reads as either-reads
 use Rattle.lister.proofs.reacting.emitted.Reads as emitted-reads
 use Rattle.lister.proofs.reacting.left.Reads as left-reads
 use Rattle.lister.proofs.reacting.named.Reads as named-reads
+use Rattle.lister.proofs.reacting.hide_unknown.Reads as hide-unknown-reads
+use Rattle.lister.proofs.reacting.hide_signal.Reads as hide-signal-reads
+use Rattle.lister.proofs.reacting.add_condition.Reads as add-condition-reads
+use Rattle.lister.proofs.reacting.keep_going.Reads as keep-going-reads
+use Rattle.lister.proofs.reacting.catch_exits.Reads as catch-exits-reads
 use Rattle.lister.proofs.reacting.paused.Reads as paused-reads
 use Rattle.lister.proofs.reacting.slot_of.Reads as slot-of-reads
 use Rattle.lister.proofs.reacting.some_ends.Reads as some-ends-reads
@@ -92,8 +96,10 @@ claims t = (
   with-reads.Learnt,
   slot-of-reads.Asked,
   slot-of-reads.Learnt,
-  alter-reads.Asked,
-  alter-reads.Learnt,
+  hide-unknown-reads.Asked,
+  hide-unknown-reads.Learnt,
+  hide-signal-reads.Asked,
+  hide-signal-reads.Learnt,
   above-reads.Asked,
   above-reads.Learnt,
   without-reads.Asked,
@@ -102,6 +108,8 @@ claims t = (
   either-reads.Learnt,
   on-slot-reads.Asked,
   on-slot-reads.Learnt,
+  add-condition-reads.Asked,
+  add-condition-reads.Learnt,
   off-slot-reads.Asked,
   off-slot-reads.Learnt,
   some-ends-reads.Asked,
@@ -110,6 +118,10 @@ claims t = (
   product-reads.Learnt,
   together-reads.Asked,
   together-reads.Learnt,
+  keep-going-reads.Asked,
+  keep-going-reads.Learnt,
+  catch-exits-reads.Asked,
+  catch-exits-reads.Learnt,
 )
 
 -- ---- what is known at the entry
@@ -407,8 +419,8 @@ module _ (t : ℕ) where
       let g = c .before .before in
       below-64 t (arm t (g .before .before .before .before) .before)
 
-  alter-requires : start-lts.Need-alter-requires (claims t) (start-at t) start.Post
-  alter-requires c κs = let g = c .before .before .before .before in λ h. omega (arith, g .start2 .ensures .fits h, g .start2 .ensures .same)
+  hide-unknown-requires : start-lts.Need-hide-unknown-requires (claims t) (start-at t) start.Post
+  hide-unknown-requires c κs = let g = c .before .before .before .before in λ h. omega (arith, g .start2 .ensures .fits h, g .start2 .ensures .same)
 
   returns-3 : start-lts.Need-returns-3 (claims t) (start-at t) start.Post
   returns-3 c =
@@ -421,7 +433,7 @@ module _ (t : ℕ) where
       let a = s .args in
       signal-tried (ready t s) (signal-key t (arm t x)) (signal t x) (operand-is t (arm t x .before)) (a .slotted) started (a .assumed) (a .unknown)
       (sym (x .contains .ensures) ∙ w .before .if3 .taken) (i .slot-of .result) (w .with .result) (i .slot-of .ensures) (w .with .ensures)
-      (changed-child t s (Local (signal t x) (i .slot-of .result)) (body t (arm t x)) (g .start2 .ensures) (l .alter .ensures)) (is-named t x) (c .if4 .taken)
+      (changed-child t s (Local (signal t x) (i .slot-of .result)) (body t (arm t x)) (g .start2 .ensures) (l .hide-unknown .ensures)) (is-named t x) (c .if4 .taken)
 
   same-length-2 : start-lts.Need-same-length-2 (claims t) (start-at t) start.Post
   same-length-2 c = returns-3 c .same
@@ -448,15 +460,15 @@ module _ (t : ℕ) where
       let m = arm t (j .before) in
       (falls-to t s (body t m), (still-short t j, ready-at (ready t s) (body t m), slotted-none (slots t s)))
 
-  alter-requires-2 : start-lts.Need-alter-requires-2 (claims t) (start-at t) start.Post
-  alter-requires-2 c κs = let g = c .before .before .before in λ h. omega (arith, g .start3 .ensures .fits h, g .start3 .ensures .same)
+  hide-signal-requires : start-lts.Need-hide-signal-requires (claims t) (start-at t) start.Post
+  hide-signal-requires c κs = let g = c .before .before .before in λ h. omega (arith, g .start3 .ensures .fits h, g .start3 .ensures .same)
 
   above-requires : start-lts.Need-above-requires (claims t) (start-at t) start.Post
   above-requires c κs =
       let l = c .before .before .before in
       let g = l .before .before .before .before in
       let j = g .before .before .before .before in
-      let m = changed-child t (origin t j) (Hide (signal t (j .before))) (body t (arm t (j .before))) (g .start3 .ensures) (l .alter2 .ensures) in
+      let m = changed-child t (origin t j) (Hide (signal t (j .before))) (body t (arm t (j .before))) (g .start3 .ensures) (l .hide-signal .ensures) in
       (omega (arith, still-short t j, m .same), λ h. omega (arith, m .fits h, m .same))
 
   without-requires : start-lts.Need-without-requires (claims t) (start-at t) start.Post
@@ -480,7 +492,7 @@ module _ (t : ℕ) where
       let j = g .before .before .before .before in
       let s = origin t j in
       let b = body t (arm t (j .before)) in
-      let m = changed-child t s (Hide (signal t (j .before))) b (g .start3 .ensures) (l .alter2 .ensures) in
+      let m = changed-child t s (Hide (signal t (j .before))) b (g .start3 .ensures) (l .hide-signal .ensures) in
       beside-top m (u .above .ensures) (wide t s b) (f .start4 .ensures) (λ h e. let z = less-room t s b in omega arith)
 
   mul-second : start-lts.Need-mul-second (claims t) (start-at t) start.Post
@@ -507,8 +519,8 @@ module _ (t : ℕ) where
   on-slot-requires : start-lts.Need-on-slot-requires (claims t) (start-at t) start.Post
   on-slot-requires c κs = low-slot t (c .before .before .before .before .before)
 
-  alter-requires-3 : start-lts.Need-alter-requires-3 (claims t) (start-at t) start.Post
-  alter-requires-3 c κs = let g = c .before .before .before .before in λ h. omega (arith, g .start5 .ensures .fits h, g .start5 .ensures .same)
+  add-condition-requires : start-lts.Need-add-condition-requires (claims t) (start-at t) start.Post
+  add-condition-requires c κs = let g = c .before .before .before .before in λ h. omega (arith, g .start5 .ensures .fits h, g .start5 .ensures .same)
 
   above-requires-2 : start-lts.Need-above-requires-2 (claims t) (start-at t) start.Post
   above-requires-2 c κs =
@@ -517,7 +529,7 @@ module _ (t : ℕ) where
       let g = o .before .before .before .before in
       let q = g .before .before in
       let s = asker t q in
-      let m = changed-child t s (Given (o .on-slot .result)) (then-part t (branches t q)) (g .start5 .ensures) (l .alter3 .ensures) in
+      let m = changed-child t s (Given (o .on-slot .result)) (then-part t (branches t q)) (g .start5 .ensures) (l .add-condition .ensures) in
       (omega (arith, short t s, m .same), λ h. omega (arith, m .fits h, m .same))
 
   start-requires-6 : start-lts.Need-start-requires-6 (claims t) (start-at t) start.Post
@@ -537,8 +549,8 @@ module _ (t : ℕ) where
       let g = l .before .before .before .before .before in
       low-slot t (g .before .before)
 
-  alter-requires-4 : start-lts.Need-alter-requires-4 (claims t) (start-at t) start.Post
-  alter-requires-4 c κs = let f = c .before .before .before .before in λ h. omega (arith, f .start6 .ensures .fits h, f .start6 .ensures .same)
+  add-condition-requires-2 : start-lts.Need-add-condition-requires-2 (claims t) (start-at t) start.Post
+  add-condition-requires-2 c κs = let f = c .before .before .before .before in λ h. omega (arith, f .start6 .ensures .fits h, f .start6 .ensures .same)
 
   either-requires-2 : start-lts.Need-either-requires-2 (claims t) (start-at t) start.Post
   either-requires-2 c κs =
@@ -551,8 +563,8 @@ module _ (t : ℕ) where
       let q = g .before .before in
       let s = asker t q in
       let b = branches t q in
-      let m = changed-child t s (Given (o .on-slot .result)) (then-part t b) (g .start5 .ensures) (l .alter3 .ensures) in
-      beside-top m (u .above2 .ensures) (wide t s (then-part t b)) (altered (Given (y .before .off-slot .result)) (f .start6 .ensures) (y .alter4 .ensures)) (λ h e. let z = less-room t s (else-part t b) in omega arith)
+      let m = changed-child t s (Given (o .on-slot .result)) (then-part t b) (g .start5 .ensures) (l .add-condition .ensures) in
+      beside-top m (u .above2 .ensures) (wide t s (then-part t b)) (altered (Given (y .before .off-slot .result)) (f .start6 .ensures) (y .add-condition2 .ensures)) (λ h e. let z = less-room t s (else-part t b) in omega arith)
 
   returns-5 : start-lts.Need-returns-5 (claims t) (start-at t) start.Post
   returns-5 c =
@@ -567,10 +579,10 @@ module _ (t : ℕ) where
       let s = asker t q in
       let a = s .args in
       let b = branches t q in
-      let m = changed-child t s (Given (o .on-slot .result)) (then-part t b) (g .start5 .ensures) (l .alter3 .ensures) in
+      let m = changed-child t s (Given (o .on-slot .result)) (then-part t b) (g .start5 .ensures) (l .add-condition .ensures) in
       list-tested (ready t s) (a .slotted) (a .assumed) (a .unknown) (second t s) refl (present-key t b) (asked t q) (operand-is t (b .before)) (is-unknown t q)
       (q .slot-of2 .result) (o .on-slot .result) (y .before .off-slot .result) (q .slot-of2 .ensures) (o .on-slot .ensures .1) (y .before .off-slot .ensures)
-      (joined m (u .above2 .ensures) (wide t s (then-part t b)) _++_ (altered (Given (y .before .off-slot .result)) (f .start6 .ensures) (y .alter4 .ensures)) (λ h e. let z = less-room t s (else-part t b) in omega arith)
+      (joined m (u .above2 .ensures) (wide t s (then-part t b)) _++_ (altered (Given (y .before .off-slot .result)) (f .start6 .ensures) (y .add-condition2 .ensures)) (λ h e. let z = less-room t s (else-part t b) in omega arith)
       (short t s) (v .either2 .ensures))
 
   same-length-4 : start-lts.Need-same-length-4 (claims t) (start-at t) start.Post
@@ -712,8 +724,8 @@ module _ (t : ℕ) where
       let s = begun t (m .before) in
       (falls-to t s (loop-part t m), (short t s, ready-at (ready t s) (loop-part t m), slots t s))
 
-  alter-requires-5 : start-lts.Need-alter-requires-5 (claims t) (start-at t) start.Post
-  alter-requires-5 c κs = let g = c .before .before .before in λ h. omega (arith, g .start13 .ensures .fits h, g .start13 .ensures .same)
+  keep-going-requires : start-lts.Need-keep-going-requires (claims t) (start-at t) start.Post
+  keep-going-requires c κs = let g = c .before .before .before in λ h. omega (arith, g .start13 .ensures .fits h, g .start13 .ensures .same)
 
   start-requires-14 : start-lts.Need-start-requires-14 (claims t) (start-at t) start.Post
   start-requires-14 c κs =
@@ -721,8 +733,8 @@ module _ (t : ℕ) where
       let s = begun t (m .before) in
       (falls-to t s (try-part t m), (short t s, ready-at (ready t s) (try-part t m), slots t s))
 
-  alter-requires-6 : start-lts.Need-alter-requires-6 (claims t) (start-at t) start.Post
-  alter-requires-6 c κs = let g = c .before .before .before in λ h. omega (arith, g .start14 .ensures .fits h, g .start14 .ensures .same)
+  catch-exits-requires : start-lts.Need-catch-exits-requires (claims t) (start-at t) start.Post
+  catch-exits-requires c κs = let g = c .before .before .before in λ h. omega (arith, g .start14 .ensures .fits h, g .start14 .ensures .same)
 
   returns-8 : start-lts.Need-returns-8 (claims t) (start-at t) start.Post
   returns-8 c =
@@ -786,7 +798,7 @@ module _ (t : ℕ) where
       let s = origin t j in
       let a = s .args in
       let b = body t (arm t x) in
-      let m = changed-child t s (Hide (signal t x)) b (g .start3 .ensures) (l .alter2 .ensures) in
+      let m = changed-child t s (Hide (signal t x)) b (g .start3 .ensures) (l .hide-signal .ensures) in
       signal-twice (ready t s) (signal-key t (arm t x)) (signal t x) (operand-is t (arm t x .before)) (a .slotted) started (a .assumed) (a .unknown)
       (is-named t x) (gave t j) (g .before .before .before .if5 .left) (g .before .before .with2 .result) (f .before .before .without .result) (g .before .before .with2 .ensures) (f .before .before .without .ensures)
       (joined m (u .above .ensures) (wide t s b) _++_ (f .start4 .ensures) (λ h e. let z = less-room t s b in omega arith) (still-short t j) (v .either .ensures))
@@ -848,7 +860,7 @@ module _ (t : ℕ) where
       let m = g .before .before in
       let s = begun t (m .before) in
       let a = s .args in
-      list-loop (ready t s) (a .slotted) (a .assumed) (a .unknown) (slots t s .within) (loop-key t m) (changed-child t s Going (loop-part t m) (g .start13 .ensures) (l .alter5 .ensures))
+      list-loop (ready t s) (a .slotted) (a .assumed) (a .unknown) (slots t s .within) (loop-key t m) (changed-child t s Going (loop-part t m) (g .start13 .ensures) (l .keep-going .ensures))
 
   same-length-16 : start-lts.Need-same-length-16 (claims t) (start-at t) start.Post
   same-length-16 c = returns-17 c .same
@@ -860,7 +872,7 @@ module _ (t : ℕ) where
       let m = g .before .before in
       let s = begun t (m .before) in
       let a = s .args in
-      list-try (ready t s) (a .slotted) (a .assumed) (a .unknown) started (slots t s .within) (try-key t m) (changed-child t s Caught (try-part t m) (g .start14 .ensures) (l .alter6 .ensures))
+      list-try (ready t s) (a .slotted) (a .assumed) (a .unknown) started (slots t s .within) (try-key t m) (changed-child t s Caught (try-part t m) (g .start14 .ensures) (l .catch-exits .ensures))
 
   same-length-17 : start-lts.Need-same-length-17 (claims t) (start-at t) start.Post
   same-length-17 c = returns-18 c .same
@@ -908,14 +920,14 @@ pub +start-spec : {M : Type 1} → statement M
     (with-requires t)
     (start-requires-2 t)
     (slot-of-requires t)
-    (alter-requires t)
+    (hide-unknown-requires t)
     (same-length-2 t)
     (returns-3 t)
     (same-length-3 t)
     (returns-4 t)
     (with-requires-2 t)
     (start-requires-3 t)
-    (alter-requires-2 t)
+    (hide-signal-requires t)
     (above-requires t)
     (without-requires t)
     (start-requires-4 t)
@@ -927,11 +939,11 @@ pub +start-spec : {M : Type 1} → statement M
     (slot-of-requires-2 t)
     (start-requires-5 t)
     (on-slot-requires t)
-    (alter-requires-3 t)
+    (add-condition-requires t)
     (above-requires-2 t)
     (start-requires-6 t)
     (off-slot-requires t)
-    (alter-requires-4 t)
+    (add-condition-requires-2 t)
     (either-requires-2 t)
     (same-length-4 t)
     (returns-5 t)
@@ -959,9 +971,9 @@ pub +start-spec : {M : Type 1} → statement M
     (start-requires-12 t)
     (together-requires t)
     (start-requires-13 t)
-    (alter-requires-5 t)
+    (keep-going-requires t)
     (start-requires-14 t)
-    (alter-requires-6 t)
+    (catch-exits-requires t)
     (same-length-7 t)
     (returns-8 t)
     (same-length-8 t)

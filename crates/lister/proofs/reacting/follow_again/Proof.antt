@@ -52,8 +52,8 @@ start-requires c κs =
     let h = ending-small (c .before .before .some-ends .ensures .1) (not-false _ (c .before .if1 .left)) in
     (omega (arith, h, (s .pre .0) h .0), s .pre .1, s .pre .2)
 
-alter-requires : tie.Need-alter-requires
-alter-requires c κs = λ h. omega (arith, c .before .before .before .start .ensures .fits h, c .before .before .before .start .ensures .same)
+keep-going-requires : tie.Need-keep-going-requires
+keep-going-requires c κs = λ h. omega (arith, c .before .before .before .start .ensures .fits h, c .before .before .before .start .ensures .same)
 
 product-requires : tie.Need-product-requires
 product-requires c κs =
@@ -65,7 +65,7 @@ product-requires c κs =
     let a = s .args in
     let h = ending-small (f .some-ends .ensures .1) (not-false _ (e .if1 .left)) in
     beside (standing-made (s .pre .0) h) h
-    (going-made (partAt (a .nodes .now) (a .at)) (a .assumed) (s .pre .2) (a .base + 128 + roomFor (partAt (a .nodes .now) (a .at))) (g .start .ensures) (omega (arith, h)) (x .alter .ensures))
+    (going-made (partAt (a .nodes .now) (a .at)) (a .assumed) (s .pre .2) (a .base + 128 + roomFor (partAt (a .nodes .now) (a .at))) (g .start .ensures) (omega (arith, h)) (x .keep-going .ensures))
 
 same-length-2 : tie.Need-same-length-2
 same-length-2 c = search needs
@@ -81,7 +81,7 @@ returns-2 c =
     let h = ending-small (f .some-ends .ensures .1) (not-false _ (e .if1 .left)) in
     record {
       small = λ k. followed-by (standing-made (s .pre .0) h) _ (f .some-ends .ensures) (standing-free (a .area .now) (a .base) (a .n) (s .pre .0) h) (not-false _ (e .if1 .left))
-          (going-made (partAt (a .nodes .now) (a .at)) (a .assumed) (s .pre .2) (a .base + 128 + roomFor (partAt (a .nodes .now) (a .at))) (g .start .ensures) (omega (arith, h)) (x .alter .ensures))
+          (going-made (partAt (a .nodes .now) (a .at)) (a .assumed) (s .pre .2) (a .base + 128 + roomFor (partAt (a .nodes .now) (a .at))) (g .start .ensures) (omega (arith, h)) (x .keep-going .ensures))
           (omega (arith, depth-positive (partAt (a .nodes .now) (a .at)))) (c .before .before .product .ensures);
       large = λ k. absurd (omega (arith, h));
     }
@@ -96,7 +96,7 @@ follow-again-spec =
     mul-top
     add-top
     start-requires
-    alter-requires
+    keep-going-requires
     product-requires
     same-length-2
     returns-2)

@@ -2,9 +2,10 @@
 use native.Mathlib.Omega.{arith}
 use mathlib.Core.Path.{refl}
 use Rattle.list.proofs.Limits.{prepared-checked, loaded-counted, marked-nest, prepared-deep, prepared-listable}
+use Rattle.list.proofs.Slotting.{taken-none, taken-slotted}
 use borrow.Author.Needs.{needs}
-use Rattle.list.proofs.preparing.prepare.Statement.{statement}
-use Rattle.list.proofs.preparing.prepare.Tie as tie
+use Rattle.list.proofs.preparing.prepare_with.Statement.{statement}
+use Rattle.list.proofs.preparing.prepare_with.Tie as tie
 
 load-requires : tie.Need-load-requires
 load-requires c κs = search needs
@@ -59,10 +60,21 @@ returns-3 c =
     let d = loaded-counted (s .args .table .now) (s .args .nodes .now) _ (at-load .load .result) (at-load .load .ensures) _ (at-checked .checked .given .1) (s .pre .all) (s .pre .known) in
     prepared-deep (s .args .table .now) (s .args .nodes .now) _ (at-load .load .result) (at-load .load .ensures) _ (at-checked .checked .given .1) d (at-mark-front .mark-front .ensures) _ refl (c .if2 .taken)
 
+returns-4 : tie.Need-returns-4
+returns-4 c =
+    let at-if2 = c .before in
+    let at-mark-front = at-if2 .before .before .before in
+    let at-checked = at-mark-front .before .before .before .before .before .before in
+    let at-load = at-checked .before .before in
+    let s = at-load .before .before .before in
+    let d = loaded-counted (s .args .table .now) (s .args .nodes .now) _ (at-load .load .result) (at-load .load .ensures) _ (at-checked .checked .given .1) (s .pre .all) (s .pre .known) in
+    prepared-listable (s .args .table .now) (s .args .nodes .now) _ (at-load .load .result) (at-load .load .ensures) _ (at-checked .checked .given .1) d (at-mark-front .mark-front .ensures) _ refl
+    (at-if2 .if2 .left) 0 (taken-slotted taken-none (omega arith))
+
 slotted-requires : tie.Need-slotted-requires
 slotted-requires c κs =
-    let at-mark-front-arg3 = c .before .before .before .before .before .before in
-    let at-checked = at-mark-front-arg3 .before .before .before .before in
+    let at-mark-front-arg4 = c .before .before .before .before .before .before in
+    let at-checked = at-mark-front-arg4 .before .before .before .before .before in
     let at-load = at-checked .before .before in
     let s = at-load .before .before .before in
     let d = loaded-counted (s .args .table .now) (s .args .nodes .now) _ (at-load .load .result) (at-load .load .ensures) _ (at-checked .checked .given .1) (s .pre .all) (s .pre .known) in
@@ -70,9 +82,9 @@ slotted-requires c κs =
     let f = d .loaded .few in
     omega arith
 
-returns-4 : tie.Need-returns-4
-returns-4 c =
-    let at-if2 = c .before .before in
+returns-5 : tie.Need-returns-5
+returns-5 c =
+    let at-if2 = c .before .before .before in
     let at-mark-front = at-if2 .before .before .before in
     let at-checked = at-mark-front .before .before .before .before .before .before in
     let at-load = at-checked .before .before in
@@ -81,8 +93,8 @@ returns-4 c =
     prepared-listable (s .args .table .now) (s .args .nodes .now) _ (at-load .load .result) (at-load .load .ensures) _ (at-checked .checked .given .1) d (at-mark-front .mark-front .ensures) _ refl
     (at-if2 .if2 .left) _ (c .slotted .ensures)
 
-pub prepare-spec : {M : Type 1} → statement M
-prepare-spec =
+pub prepare-with-spec : {M : Type 1} → statement M
+prepare-with-spec =
     tie.close
     (tie.spec
     load-requires
@@ -95,5 +107,6 @@ prepare-spec =
     element-copy-out-nest
     returns-2
     returns-3
+    returns-4
     slotted-requires
-    returns-4)
+    returns-5)
