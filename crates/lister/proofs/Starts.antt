@@ -6,7 +6,7 @@ use mathlib.Core.Option.{some}
 use Prim.Native.Nat.{ℕ, _+_, _%_, _^_, _≤_, _<_}
 use native.Mathlib.Omega.{arith}
 use lib.ListN.{length, getD}
-use Rattle.sets.specs.Set.{has, only, _without_, Within}
+use Rattle.sets.specs.Set.{has, only, Within}
 use Rattle.esterel.specs.Statement.{Statement, nothing, pause, gotopause, emit, exit, present, sequence, parallel, loop, try, depth}
 use Rattle.esterel.specs.Codes.{codeOf}
 use Rattle.esterel.specs.Reactions.{State, start}
