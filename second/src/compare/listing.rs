@@ -385,6 +385,37 @@ pub fn tested_signals(t: &mut Trial, amount: Amount) -> Outcome {
     Ok(())
 }
 
+/// Programs in which a body has 63 to 66, or far more, ways to react that signals around it tell
+/// apart, though few reactions under any one set: so many tests of signals side by side, and so many
+/// single reactions beside them in a resumed present. The signals stand outermost, inside another one
+/// that is tested too, and with one of them declared again inside its own scope. The last programs
+/// have up to 63 reactions as well.
+pub fn told_apart(t: &mut Trial, _: Amount) -> Outcome {
+    let tests_and_singles = [(5, 31..=34), (6, 0..=1), (7, 0..=0), (8, 0..=0), (2, 60..=62)];
+    for (tests, singles) in tests_and_singles {
+        let test = |s| Present(s, Emit(30).into(), Emit(31).into());
+        let apart = even((0..tests).map(test).collect(), parallel);
+        let around = |p| inside_signals(tests.into(), p);
+        for single in singles {
+            let mut ways = vec![sequence(Pause(1), apart.clone())];
+            ways.extend((2..2 + single).map(|l| sequence(Pause(l), Gotopause(l))));
+            let body = even(ways, |p, q| Present(29, p.into(), q.into()));
+            let tested = Present(20, Emit(30).into(), Nothing.into());
+            let inner = Signal(20, parallel(tested, around(body.clone())).into());
+            let again = around(parallel(test(0), Signal(0, body.clone().into())));
+            for p in [around(body), around(apart.clone()), inner, again] {
+                for assumed in [0, 1 << 30, 1 << 31, u32::MAX] {
+                    ask(t, &p, start(assumed))?;
+                    for labels in [2, !2, u64::MAX] {
+                        ask(t, &p, resumed(assumed, labels))?;
+                    }
+                }
+            }
+        }
+    }
+    Ok(())
+}
+
 /// The edges of check, and random tables, valid and damaged, with buffers of any length up to 70
 /// reactions. Programs whose listing would take too long are passed over.
 pub fn random_tables(t: &mut Trial, amount: Amount) -> Outcome {

@@ -85,6 +85,7 @@ fn groups(operation: Operation) -> &'static [Group] {
             ("random programs", listing::random_programs),
             ("crowded programs", listing::crowded_programs),
             ("tests inside 0 to 12 signals", listing::tested_signals),
+            ("63 to 66 ways told apart by signals", listing::told_apart),
             ("edges and random tables", listing::random_tables),
         ],
     }
