@@ -533,7 +533,7 @@ pub fn product(area: &mut [u64], base: usize, n1: usize, n2: usize, how: Pairing
     product_of_many(area, base, n1, n2, how)
 }
 
-// Whether the next of two lists in order is the i-th of the first, rather than the j-th of the second.
+// Whether to take the i-th of the first list next, or else the j-th of the second: one that is there.
 fn first(area: &[u64], base: usize, i: usize, n1: usize, mid: usize, j: usize, n2: usize) -> bool
     requires { ⌜ (i ≤ n1) × (j ≤ n2) × (i + j < n1 + n2) × (base + 2 * n1 ≤ length (now area)) × (mid + 2 * n2 ≤ length (now area)) ⌝ }
     ensures { λ r. ⌜ (r ≡ true → i < n1) × (r ≡ false → j < n2) ⌝ }

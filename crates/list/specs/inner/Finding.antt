@@ -15,7 +15,7 @@ use Rattle.list.specs.Answers.{Listing, listed, fitted, listingOutcome, 
 use Rattle.list.specs.Buffers.{Delivered, DeliveredBytes}
 use Rattle.list.specs.inner.Preparing.{listAt}
 
--- the n rows of a large area stand in a small one; nothing is written where n says that there is no list
+-- the n rows of a large area stand in a small one, where n is that of a list
 pub record Copied (large a b : List ℕ) (n : ℕ) : Type 0 where
   pub same-length : length b ≡ length a
   pub copied : n ≤ 64 → (i : ℕ) → i < 2 * n → getD b i 0 ≡ getD large i 0
