@@ -1,5 +1,5 @@
 -- Each row of a list changed, in place: what is done never passes what is read.
-use mathlib.Core.Path.{_≡_, refl, sym, ap, _∙_, subst}
+use mathlib.Core.Path.{_≡_, refl, sym, ap, _∙_}
 use mathlib.Core.Bool.{Bool, true, false}
 use mathlib.Core.List.{List, [], _∷_, _++_}
 use Prim.Native.Nat.{ℕ, zero, suc, _+_, _*_, _-_, _/_, _%_, _^_, _≤_, _<_}
@@ -19,9 +19,9 @@ use Rattle.area.specs.inner.Layout.{conditionIn, packed}
 use Rattle.area.specs.inner.Rules.{unlessClash, changed, change}
 use Rattle.area.specs.inner.Area.{rowAt, rows, InOrder, Made, Put}
 use Rattle.area.proofs.Order.{sorted-there}
-use Rattle.area.proofs.Members.{same-as, cap-some}
+use Rattle.area.proofs.Members.{cap-some}
 use Rattle.area.proofs.Rows.{row-agree, rows-cons, rows-done, rows-whole, rows-length, packed-as, condition-low, condition-both}
-use Rattle.area.proofs.Made.{made-as, Filling, filling-empty, filling-step, filling-end}
+use Rattle.area.proofs.Made.{made-as, filling-end, Passing, passing-start, passing-step}
 
 pub through-below : (k : ℕ) → through k ≤ k
 unfolding through
@@ -133,40 +133,30 @@ module _ (a : List ℕ) (base m : ℕ) (xs : List Row) where
   pub put-as : {b : List ℕ} {r : ℕ} (ys : List Row) → xs ≡ ys → Put a b base m (collectRows (ys ++ rows a base m)) r → Put a b base m (collectRows (xs ++ rows a base m)) r
   put-as ys e p = record { made = made-as (p .made) (ap (λ (z : List Row). collectRows (z ++ rows a base m)) (sym e)); high = p .high; count = p .count }
 
--- ---- m are done at base, and those from the i-th on stand as they did
-pub record Altering (c : Change) (a₀ a : List ℕ) (base n m i : ℕ) : Type 0 where
-  pub within : i ≤ n
-  pub behind : m ≤ i
-  pub rest : (k : ℕ) → base + 2 * i ≤ k → getD a k 0 ≡ getD a₀ k 0
-  pub filling : Filling a₀ a base m (change c (rows a₀ (base + 2 * i) (n - i))) (change c (rows a₀ base n))
+-- ---- m are done at base, and those from the i-th on are still to be changed
+module _ (c : Change) (a₀ : List ℕ) (base n : ℕ) where
+  abbrev pub changes : ℕ → List Row
+  changes i = change c (rows a₀ (base + 2 * i) (n - i))
 
-pub altering-start : (c : Change) (a : List ℕ) (base n : ℕ) → base ≤ length a → Altering c a a base n 0 0
-altering-start c a base n h = record {
-  within = omega arith;
-  behind = omega arith;
-  rest = λ k b. refl;
-  filling = subst (λ (z : List Row). Filling a a base 0 z (change c (rows a base n))) (ap (change c) (sym (rows-whole a base n))) (filling-empty a base (change c (rows a base n)) h);
-}
+  abbrev pub changes-goal : List Row
+  changes-goal = change c (rows a₀ base n)
 
-module _ (c : Change) (a₀ a : List ℕ) (base n m i : ℕ) (t : Altering c a₀ a base n m i) where
-  pub altering-step : (b : List ℕ) (r : ℕ) → i < n → n ≤ 64 → Put a b base m (collectRows (changed c (rowAt a (base + 2 * i)) ++ rows a base m)) r → Altering c a₀ b base n r (i + 1)
-  unfolding change eachRow
-  altering-step b r h k p =
-      let d = t .behind in
-      let q = p .count in
-      let x : rowAt a (base + 2 * i) ≡ rowAt a₀ (base + 2 * i) = row-agree a₀ a (base + 2 * i) (t .rest (base + 2 * i) (omega arith)) (t .rest (base + 2 * i + 1) (omega arith)) in
-      record {
-        within = omega arith;
-        behind = omega arith;
-        rest = λ j g. p .high j (omega arith) ∙ t .rest j (omega arith);
-        filling = filling-step (changed c (rowAt a₀ (base + 2 * i))) (change c (rows a₀ (base + 2 * (i + 1)) (n - (i + 1)))) (change c (rows a₀ (base + 2 * i) (n - i))) (t .filling)
-            (same-as (ap (change c) (rows-cons a₀ base n i h)))
-            (made-as (p .made) (ap (λ (z : Row). collectRows (changed c z ++ rows a base m)) x)) (omega arith);
-      }
+  pub altering-start : base ≤ length a₀ → Passing a₀ a₀ base 0 0 (base + 2 * 0) (changes 0) changes-goal
+  altering-start h = passing-start a₀ base (base + 2 * 0) (changes 0) changes-goal (ap (change c) (rows-whole a₀ base n)) h
 
-  pub altering-end : n ≤ i → Made a₀ a base 0 (collectRows (change c (rows a₀ base n))) m
-  unfolding change eachRow
-  altering-end h = filling-end 0 (change c (rows a₀ (base + 2 * i) (n - i))) (t .filling) (ap (change c) (rows-done a₀ base n i h))
+  module _ (a : List ℕ) (m i : ℕ) (t : Passing a₀ a base m i (base + 2 * i) (changes i) changes-goal) where
+    pub altering-step : (b : List ℕ) (r : ℕ) → i < n → n ≤ 64 → Put a b base m (collectRows (changed c (rowAt a (base + 2 * i)) ++ rows a base m)) r
+        → Passing a₀ b base r (i + 1) (base + 2 * (i + 1)) (changes (i + 1)) changes-goal
+    unfolding change eachRow
+    altering-step b r h k p =
+        let d = t .behind in
+        let x : rowAt a (base + 2 * i) ≡ rowAt a₀ (base + 2 * i) = row-agree a₀ a (base + 2 * i) (t .rest (base + 2 * i) (omega arith)) (t .rest (base + 2 * i + 1) (omega arith)) in
+        passing-step (changed c (rowAt a₀ (base + 2 * i))) (changes (i + 1)) (changes i) (base + 2 * (i + 1)) t (ap (change c) (rows-cons a₀ base n i h))
+        (put-as a base m (changed c (rowAt a₀ (base + 2 * i))) (changed c (rowAt a (base + 2 * i))) (ap (changed c) (sym x)) p) (omega arith) (omega arith) (omega arith)
+
+    pub altering-end : n ≤ i → Made a₀ a base 0 (collectRows changes-goal) m
+    unfolding change eachRow
+    altering-end h = filling-end 0 (changes i) (t .filling) (ap (change c) (rows-done a₀ base n i h))
 
 -- ---- a code 0 among the rows from the i-th on
 module _ (a : List ℕ) (base n i : ℕ) (inv : someEnds (reactions (rows a (base + 2 * i) (n - i))) ≡ someEnds (reactions (rows a base n))) where

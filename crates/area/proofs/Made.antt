@@ -12,7 +12,7 @@ use Rattle.esterel.specs.inner.Rows.{Row}
 use Rattle.esterel.specs.inner.CappedRows.{CappedRows, sortedRows, capRows, collectRows}
 use Rattle.esterel.proofs.Order.{append-left, append-right}
 use Rattle.area.specs.inner.Layout.{packed}
-use Rattle.area.specs.inner.Area.{rowAt, rows, InOrder, Low, Made, Stored, MovedDown}
+use Rattle.area.specs.inner.Area.{rowAt, rows, InOrder, Low, Made, Put, Stored, Copied}
 use Rattle.area.proofs.Order.{sorted-there}
 use Rattle.area.proofs.Members.{Same, same, same-as, same-sym, same-trans, same-append, same-swap, same-assoc, same-sorted, sorted-equal, sorted-length, cap-some, cap-none}
 use Rattle.area.proofs.Rows.{rows-length}
@@ -50,6 +50,43 @@ made-over a b base need n v s l h e = record { same = s; low = l; fits = λ k. a
 -- the area is too small
 pub made-cramped : (a : List ℕ) (base need n : ℕ) (v : CappedRows) → 65 < n → length a < need → Made a a base need v n
 made-cramped a base need n v h k = record { same = refl; low = λ i b. refl; fits = λ b. absurd (omega arith); listed = λ b. absurd (omega arith); rising = λ b. absurd (omega arith); over = λ b. absurd (omega arith); cramped = λ b. k }
+
+-- what was made after the area had changed from base on
+pub made-after : {a₀ a b : List ℕ} {base need n : ℕ} {v : CappedRows} → length a ≡ length a₀ → Low base a₀ a → Made a b base need v n → Made a₀ b base need v n
+made-after {a₀} {a} s l m = record {
+  same = m .same ∙ s;
+  low = λ i h. m .low i h ∙ l i h;
+  fits = λ h. let k = m .fits h in omega arith;
+  listed = m .listed;
+  rising = m .rising;
+  over = m .over;
+  cramped = λ h. let k = m .cramped h in omega arith;
+}
+
+-- n rows that stand in order at base are the list, or are too many
+module _ (a b : List ℕ) (base n : ℕ) (xs : List Row) (s : length b ≡ length a) (l : Low base a b) (e : rows b base n ≡ xs) (o : InOrder xs) where
+  there : collectRows xs ≡ capRows xs
+  unfolding collectRows
+  there = ap capRows (sorted-there xs o)
+
+  counted : length xs ≡ n
+  counted = sym (ap length e) ∙ rows-length b base n
+
+  pub made-all : base + 2 * n ≤ length a → n ≤ 64 → Made a b base 0 (collectRows xs) n
+  made-all f h =
+      let c = counted in
+      record {
+        same = s;
+        low = l;
+        fits = λ k. f;
+        listed = λ k. there ∙ cap-some xs (omega arith) ∙ ap some (sym e);
+        rising = λ k. subst InOrder (sym e) o;
+        over = λ k. absurd (omega arith);
+        cramped = λ k. absurd (omega arith);
+      }
+
+  pub made-many : 64 < n → Made a b base 0 (collectRows xs) 65
+  made-many h = let c = counted in made-over a b base 0 65 (collectRows xs) s l refl (there ∙ cap-none xs (omega arith))
 
 -- what was collected, by the number that came back
 pub collected : {a b : List ℕ} {base need n : ℕ} (raw : List Row) → Made a b base need (collectRows raw) n → n ≤ 64 → rows b base n ≡ sortedRows raw
@@ -138,8 +175,28 @@ filling-end {a₀} {a} {top} {n} {goal} need todo f e =
       cramped = λ h. absurd (omega arith);
     }
 
+-- A list at base that is being filled in place: what stands from q on, where the i-th row is read next, is as it was.
+pub record Passing (a₀ a : List ℕ) (base n i q : ℕ) (todo goal : List Row) : Type 0 where
+  pub behind : n ≤ i
+  pub rest : (k : ℕ) → q ≤ k → getD a k 0 ≡ getD a₀ k 0
+  pub filling : Filling a₀ a base n todo goal
+
+pub passing-start : (a : List ℕ) (base q : ℕ) (todo goal : List Row) → todo ≡ goal → base ≤ length a → Passing a a base 0 0 q todo goal
+passing-start a base q todo goal e h = record { behind = omega arith; rest = λ k b. refl; filling = subst (Filling a a base 0 todo) e (filling-empty a base todo h) }
+
+pub passing-step : {a₀ a b : List ℕ} {base n i q r : ℕ} {goal : List Row} (xs ys todo : List Row) (next : ℕ) → Passing a₀ a base n i q todo goal → todo ≡ xs ++ ys
+    → Put a b base n (collectRows (xs ++ rows a base n)) r → i < 64 → q ≤ next → base + 2 * n + 2 ≤ next → Passing a₀ b base r (i + 1) next ys goal
+passing-step {a₀} {a} {b} {base} {n} {i} {q} {r} {goal} xs ys todo next t e p h k l =
+    let d = t .behind in
+    let c = p .count in
+    record {
+      behind = omega arith;
+      rest = λ j g. p .high j (omega arith) ∙ t .rest j (omega arith);
+      filling = filling-step xs ys todo (t .filling) (same-as e) (p .made) (omega arith);
+    }
+
 -- what was made at top, moved down to base; or there was too much
-pub made-lowered : {a₀ a b : List ℕ} {base need top n : ℕ} {v : CappedRows} → Made a₀ a top need v n → base ≤ top → n ≤ 64 → MovedDown a b base top n → Made a₀ b base need v n
+pub made-lowered : {a₀ a b : List ℕ} {base need top n : ℕ} {v : CappedRows} → Made a₀ a top need v n → base ≤ top → n ≤ 64 → Copied a b base top n → Made a₀ b base need v n
 made-lowered {a₀} {a} {b} {base} {need} {top} {n} m h k l =
     let f = m .fits k in
     record {

@@ -9,8 +9,9 @@ use lib.ListN.{length, getD, set, length-set}
 use lib.Seq.{getD-set-same, getD-set-other}
 use Rattle.esterel.specs.inner.Rows.{Row}
 use Rattle.esterel.specs.inner.CappedRows.{beforeRow}
-use Rattle.area.specs.inner.Area.{rowAt, rows, Stored, MovedDown, Searched}
-use Rattle.area.proofs.Rows.{rows-move}
+use Rattle.area.specs.inner.Layout.{packed}
+use Rattle.area.specs.inner.Area.{rowAt, rows, Stored, Copied, Taken, Searched}
+use Rattle.area.proofs.Rows.{rows-copy}
 
 -- ---- the search by halves: the row at high is above x, and the one before low is not
 pub record Searching (a : List ℕ) (base n : ℕ) (x : Row) (low high : ℕ) : Type 0 where
@@ -88,38 +89,46 @@ opening-step a₀ a f t j o h k =
         ap (λ (x : ℕ). getD (set a (j - 1 + 2) (getD a (j - 1) 0)) (x + 2) 0) z ∙ getD-set-same a (j - 1 + 2) (getD a (j - 1) 0) 0 (omega arith) ∙ o .low (j - 1) (omega arith) ∙ ap (λ (x : ℕ). getD a₀ x 0) (sym z)
     go i b d (no y) = getD-set-other a (j - 1 + 2) (i + 2) (getD a (j - 1) 0) 0 (λ z. omega arith) ∙ o .moved i (omega arith) d
 
--- ---- words copied down, from the first on
-pub record Lowering (a₀ a : List ℕ) (t f m j : ℕ) : Type 0 where
+-- ---- words copied, from the first on: j of m are done
+pub record Copying (a₀ a : List ℕ) (t f m j : ℕ) : Type 0 where
   pub to : j ≤ m
   pub same : length a ≡ length a₀
   pub low : (i : ℕ) → i < t → getD a i 0 ≡ getD a₀ i 0
-  pub done : (i : ℕ) → t ≤ i → i < t + j → getD a i 0 ≡ getD a₀ (i + (f - t)) 0
+  pub done : (i k : ℕ) → t ≤ i → i < t + j → i + f ≡ k + t → getD a i 0 ≡ getD a₀ k 0
   pub high : (i : ℕ) → t + j ≤ i → getD a i 0 ≡ getD a₀ i 0
 
-pub lowering-step : (a₀ a : List ℕ) (t f m j : ℕ) → Lowering a₀ a t f m j → j < m → t ≤ f → f + m ≤ length a₀ → Lowering a₀ (set a (t + j) (getD a (f + j) 0)) t f m (j + 1)
-lowering-step a₀ a t f m j o h k n =
-    let e = o .same in
-    record {
+module _ (a₀ a : List ℕ) (t f m j : ℕ) (o : Copying a₀ a t f m j) where
+  module _ (h : j < m) (fits : t + m ≤ length a₀) (apart : f < t → f + m ≤ t) where
+    -- the next word to read is as it was
+    unread : getD a (f + j) 0 ≡ getD a₀ (f + j) 0
+    unread = go (decLt f t)
+      where
+        go : Dec (f < t) → getD a (f + j) 0 ≡ getD a₀ (f + j) 0
+        go (yes y) = let g = apart y in o .low (f + j) (omega arith)
+        go (no y) = o .high (f + j) (omega arith)
+
+    pub copying-step : Copying a₀ (set a (t + j) (getD a (f + j) 0)) t f m (j + 1)
+    copying-step = record {
       to = omega arith;
       same = length-set a (t + j) (getD a (f + j) 0) ∙ o .same;
       low = λ i b. getD-set-other a (t + j) i (getD a (f + j) 0) 0 (λ z. omega arith) ∙ o .low i b;
-      done = λ i b d. go i b d (decLt i (t + j));
+      done = λ i k b d e. go i k b d e (decLt i (t + j));
       high = λ i b. getD-set-other a (t + j) i (getD a (f + j) 0) 0 (λ z. omega arith) ∙ o .high i (omega arith);
     }
-  where
-    go : (i : ℕ) → t ≤ i → i < t + (j + 1) → Dec (i < t + j) → getD (set a (t + j) (getD a (f + j) 0)) i 0 ≡ getD a₀ (i + (f - t)) 0
-    go i b d (yes y) = getD-set-other a (t + j) i (getD a (f + j) 0) 0 (λ z. omega arith) ∙ o .done i b y
-    go i b d (no y) =
-        let e = o .same in
-        let z : i ≡ t + j = omega arith in
-        let u : f + j ≡ i + (f - t) = omega arith in
-        ap (λ (x : ℕ). getD (set a (t + j) (getD a (f + j) 0)) x 0) z ∙ getD-set-same a (t + j) (getD a (f + j) 0) 0 (omega arith) ∙ o .high (f + j) (omega arith) ∙ ap (λ (x : ℕ). getD a₀ x 0) u
+      where
+        go : (i k : ℕ) → t ≤ i → i < t + (j + 1) → i + f ≡ k + t → Dec (i < t + j) → getD (set a (t + j) (getD a (f + j) 0)) i 0 ≡ getD a₀ k 0
+        go i k b d e (yes y) = getD-set-other a (t + j) i (getD a (f + j) 0) 0 (λ z. omega arith) ∙ o .done i k b y e
+        go i k b d e (no y) =
+            let l = o .same in
+            let z : i ≡ t + j = omega arith in
+            let u : f + j ≡ k = omega arith in
+            ap (λ (x : ℕ). getD (set a (t + j) (getD a (f + j) 0)) x 0) z ∙ getD-set-same a (t + j) (getD a (f + j) 0) 0 (omega arith) ∙ unread ∙ ap (λ (x : ℕ). getD a₀ x 0) u
 
-pub lowering-end : (a₀ a : List ℕ) (t f n j : ℕ) → Lowering a₀ a t f (2 * n) j → 2 * n ≤ j → t ≤ f → MovedDown a₀ a t f n
-lowering-end a₀ a t f n j o h k =
-    let g = o .to in
-    let e : t + (f - t) ≡ f = omega arith in
-    record { same = o .same; low = o .low; moved = rows-move (f - t) a₀ a t n (λ i b d. o .done i b (omega arith)) ∙ ap (λ (z : ℕ). rows a₀ z n) e }
+pub copying-end : (a₀ a : List ℕ) (t f n j : ℕ) → Copying a₀ a t f (2 * n) j → 2 * n ≤ j → Copied a₀ a t f n
+copying-end a₀ a t f n j o h = record { same = o .same; low = o .low; moved = rows-copy a₀ a t f n (λ i k b d e. o .done i k b (omega arith) e) }
+
+pub copied-there : (a : List ℕ) (t f n : ℕ) → t ≡ f → Copied a a t f n
+copied-there a t f n e = record { same = refl; low = λ i b. refl; moved = ap (λ (z : ℕ). rows a z n) e }
 
 -- ---- one row stored
 pub stored : (a : List ℕ) (q w l : ℕ) → q + 2 ≤ length a → Stored a (set (set a q w) (q + 1) l) q w l
@@ -132,3 +141,13 @@ stored a q w l fits =
       low = λ i h. getD-set-other (set a q w) (q + 1) i l 0 (λ z. omega arith) ∙ getD-set-other a q i w 0 (λ z. omega arith);
       high = λ i h. getD-set-other (set a q w) (q + 1) i l 0 (λ z. omega arith) ∙ getD-set-other a q i w 0 (λ z. omega arith);
     }
+
+-- ---- one row set behind others
+pub taken : {a b : List ℕ} {base n p : ℕ} → Stored a b (base + 2 * n) (getD a p 0) (getD a (p + 1) 0) → Taken a b base n p (n + 1)
+taken {a} {b} {base} {n} {p} s = record {
+  count = refl;
+  same = s .same;
+  low = s .low;
+  row = ap (λ (z : ℕ). packed z (getD b (base + 2 * n + 1) 0)) (s .first) ∙ ap (packed (getD a p 0)) (s .second);
+  high = s .high;
+}

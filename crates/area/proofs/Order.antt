@@ -2,7 +2,7 @@
 use mathlib.Core.Path.{_≡_, refl, sym, ap₂, _∙_, subst}
 use mathlib.Core.Logic.{_⊎_, inl, inr}
 use mathlib.Core.Bool.{Bool, true, false, _&&_}
-use mathlib.Core.List.{List, [], _∷_}
+use mathlib.Core.List.{List, [], _∷_, _++_}
 use Prim.Native.Nat.{ℕ, suc, _≤_}
 use native.Mathlib.Omega.{arith}
 use lib.Dec.{eqb, ltb}
@@ -12,7 +12,8 @@ use Rattle.sets.proofs.Booleans.{or-left, or-right, and-both, not-true}
 use Rattle.esterel.specs.Listing.{Listed}
 use Rattle.esterel.specs.inner.Rows.{Row}
 use Rattle.esterel.specs.inner.CappedRows.{lessOr, beforeRow, insertRow, sortedRows}
-use Rattle.esterel.proofs.RowOrder.{LessOr, BeforeRow, RisingRows, row-yes, row-trans, insert-rising, sorted-rows-out, sorted-rows-in, sorted-rows-rising}
+use Rattle.esterel.proofs.Order.{append-left, append-right, append-cases}
+use Rattle.esterel.proofs.RowOrder.{LessOr, BeforeRow, RisingRows, row-yes, row-trans, row-same, insert-rising, sorted-rows-out, sorted-rows-in, sorted-rows-rising}
 use Rattle.area.specs.inner.Area.{InOrder}
 
 -- ---- the order, by its test
@@ -64,6 +65,34 @@ insert-in-order w vs h = in-order (insertRow w vs) (insert-rising w vs (rising v
 
 pub sorted-in-order : (ws : List Row) → InOrder (sortedRows ws)
 sorted-in-order ws = in-order (sortedRows ws) (sorted-rows-rising ws)
+
+-- ---- lists in order that go on with another
+before-weak : (w u v : Row) → beforeRow w u ≡ true → beforeRow v u ≡ false → beforeRow w v ≡ true
+before-weak w u v h k = go (beforeRow u v) refl
+  where
+    go : (b : Bool) → beforeRow u v ≡ b → beforeRow w v ≡ true
+    go true e = before-trans w u v h e
+    go false e = subst (λ z. beforeRow w z ≡ true) (row-same u v e k) h
+
+before-all : (w v : Row) (vs : List Row) → beforeRow w v ≡ true → InOrder (v ∷ vs) → (r : Row) → Listed r (v ∷ vs) → beforeRow w r ≡ true
+before-all w v vs h o r (inl e) = subst (λ z. beforeRow w z ≡ true) (sym e) h
+before-all w v vs h o r (inr m) = before-trans w v r h (o .0 r m)
+
+pub in-order-right : (ws vs : List Row) → InOrder (ws ++ vs) → InOrder vs
+in-order-right [] vs h = h
+in-order-right (w ∷ ws) vs h = in-order-right ws vs (h .1)
+
+-- what goes on with u goes on with v, which is not below u
+pub in-order-on : (ws us vs : List Row) (u v : Row) → InOrder (ws ++ (u ∷ us)) → InOrder (v ∷ vs) → beforeRow v u ≡ false → InOrder (ws ++ (v ∷ vs))
+in-order-on [] us vs u v h o k = o
+in-order-on (w ∷ ws) us vs u v h o k = (λ r m. go r (append-cases r ws (v ∷ vs) m), in-order-on ws us vs u v (h .1) o k)
+  where
+    go : (r : Row) → Listed r ws ⊎ Listed r (v ∷ vs) → beforeRow w r ≡ true
+    go r (inl m) = h .0 r (append-left r ws (u ∷ us) m)
+    go r (inr m) = before-all w v vs (before-weak w u v (h .0 u (append-right u ws (u ∷ us) (inl refl))) k) o r m
+
+pub in-order-between : (ws us vs : List Row) (u v : Row) → InOrder (ws ++ (u ∷ us)) → InOrder (v ∷ vs) → beforeRow u v ≡ true → InOrder (ws ++ (u ∷ v ∷ vs))
+in-order-between ws us vs u v h o k = in-order-on ws us (v ∷ vs) u u h (before-all u v vs k o, o) (not-true (beforeRow u u) (row-self u))
 
 -- two lists in order with the same members are the same
 same-list : (ts us : List Row) → InOrder ts → InOrder us → ((r : Row) → Listed r ts → Listed r us) → ((r : Row) → Listed r us → Listed r ts) → ts ≡ us

@@ -2,7 +2,6 @@
 use mathlib.Core.Path.{_≡_, refl, sym, ap, _∙_, subst}
 use mathlib.Core.Bool.{Bool, true, false, not}
 use mathlib.Core.List.{List, [], _∷_, _++_, append-nil}
-use mathlib.Core.Option.{some}
 use Prim.Native.Nat.{ℕ, _+_, _*_, _-_, _/_, _%_, _^_, _≤_, _<_, max}
 use native.Mathlib.Omega.{arith}
 use lib.Bits.{bitOr, or-shr}
@@ -12,18 +11,18 @@ use Rattle.sets.proofs.Booleans.{clash}
 use Rattle.sets.specs.Set.{_union_}
 use Rattle.esterel.specs.Reactions.{reachedTogether}
 use Rattle.esterel.specs.Listing.{reaction, pair}
-use Rattle.esterel.specs.inner.Conditions.{both, clashes}
+use Rattle.esterel.specs.inner.Conditions.{both}
 use Rattle.esterel.specs.inner.Rows.{Row, rowWhen, eachRow}
 use Rattle.esterel.specs.inner.CappedRows.{insertRow, sortedRows, collectRows}
 use Rattle.area.specs.declared.Pairing.{Pairing}
 use Rattle.area.specs.declared.Pairing.the-variants.{Sequence, Parallel}
 use Rattle.area.specs.inner.Layout.{conditionIn, packed}
 use Rattle.area.specs.inner.Rules.{unlessClash, joined, joinedAll, pairs, product}
-use Rattle.area.specs.inner.Area.{rowAt, rows, InOrder, Alone, Made, MovedDown}
+use Rattle.area.specs.inner.Area.{rowAt, rows, InOrder, Alone, Made, Put, Copied}
 use Rattle.area.proofs.Members.{same-as, cap-some}
 use Rattle.area.proofs.Rows.{row-agree, rows-agree, rows-cons, rows-done, rows-whole, rows-one, packed-as, condition-both}
-use Rattle.area.proofs.Changes.{clash-none, clash-one}
-use Rattle.area.proofs.Made.{made-as, made-empty, made-there, made-down, made-lowered, Filling, filling-start, filling-empty, filling-step, filling-over, filling-end}
+use Rattle.area.proofs.Changes.{put-as}
+use Rattle.area.proofs.Made.{made-as, made-there, made-down, made-lowered, Filling, filling-start, filling-empty, filling-step, filling-over, filling-end, Passing, passing-start, passing-step}
 
 -- ---- two rows
 module _ (m : Pairing) (w l v h o d : ℕ) (f : o ≡ bitOr w v / 2 ^ 32) (c : d ≡ bitOr w v % 2 ^ 24) where
@@ -66,27 +65,33 @@ module _ (m : Pairing) (w : ℕ) where
     met = λ h vs l. as-pairs Sequence e vs l ∙ rw (eq-eqb (w / 2 ^ 24 % 256) 0 (f (not-false b h))) (sym (ap (λ (y : Pairing). joinedAll y vs (packed w l)) e));
   }
 
-joined-one : (m : Pairing) (w v : Row) → joinedAll m (v ∷ []) w ≡ unlessClash (joined m w v)
-unfolding joinedAll eachRow
-joined-one m w v = append-nil (unlessClash (joined m w v))
-
 -- what a row gives with those of the other part, put among the n at top
 pub pairs-made : (m : Pairing) (a : List ℕ) (mid n₂ top n w l : ℕ) (xs : List Row) {b : List ℕ} {r : ℕ} → pairs m (rows a mid n₂) (packed w l) ≡ xs
     → Made a b top 0 (collectRows (xs ++ rows a top n)) r → Made a b top 0 (collectRows (pairs m (rows a mid n₂) (packed w l) ++ rows a top n)) r
 pairs-made m a mid n₂ top n w l xs e p = made-as {v = collectRows (xs ++ rows a top n)} p (ap (λ (z : List Row). collectRows (z ++ rows a top n)) (sym e))
 
 -- ---- (w, l) with each row at mid
-module _ (m : Pairing) (w l : ℕ) (a₀ : List ℕ) (mid n₂ top n : ℕ) where
+module _ (m : Pairing) (w l : ℕ) (a₀ : List ℕ) (mid n₂ : ℕ) where
   abbrev pub joins : ℕ → List Row
   joins j = joinedAll m (rows a₀ (mid + 2 * j) (n₂ - j)) (packed w l)
 
+  joins-cons : (j : ℕ) → j < n₂ → joins j ≡ unlessClash (joined m (packed w l) (rowAt a₀ (mid + 2 * j))) ++ joins (j + 1)
+  unfolding joinedAll eachRow
+  joins-cons j h = ap (λ (z : List Row). joinedAll m z (packed w l)) (rows-cons a₀ mid n₂ j h)
+
+  joins-none : (j : ℕ) → n₂ ≤ j → joins j ≡ []
+  unfolding joinedAll eachRow
+  joins-none j h = ap (λ (z : List Row). joinedAll m z (packed w l)) (rows-done a₀ mid n₂ j h)
+
+-- put among others above them
+module _ (m : Pairing) (w l : ℕ) (a₀ : List ℕ) (mid n₂ top n : ℕ) where
   abbrev pub joins-goal : List Row
   joins-goal = joinedAll m (rows a₀ mid n₂) (packed w l) ++ rows a₀ top n
 
-  pub joins-start : n ≤ 64 → top + 2 * n ≤ length a₀ → InOrder (rows a₀ top n) → Filling a₀ a₀ top n (joins 0) joins-goal
+  pub joins-start : n ≤ 64 → top + 2 * n ≤ length a₀ → InOrder (rows a₀ top n) → Filling a₀ a₀ top n (joins m w l a₀ mid n₂ 0) joins-goal
   joins-start h k r = subst (λ (z : List Row). Filling a₀ a₀ top n (joinedAll m z (packed w l)) joins-goal) (sym (rows-whole a₀ mid n₂)) (filling-start a₀ top n (joinedAll m (rows a₀ mid n₂) (packed w l)) h k r)
 
-  module _ (a : List ℕ) (s j : ℕ) (f : Filling a₀ a top s (joins j) joins-goal) where
+  module _ (a : List ℕ) (s j : ℕ) (f : Filling a₀ a top s (joins m w l a₀ mid n₂ j) joins-goal) where
     module _ (room : mid + 2 * n₂ ≤ top) (h : j < n₂) (x : Row) (e : x ≡ joined m (packed w l) (rowAt a (mid + 2 * j)))
         (b : List ℕ) (r : ℕ) (p : Made a b top 0 (collectRows (unlessClash x ++ rows a top s)) r) where
       abbrev these : List Row
@@ -97,19 +102,14 @@ module _ (m : Pairing) (w l : ℕ) (a₀ : List ℕ) (mid n₂ top n : ℕ) wher
           let y : rowAt a (mid + 2 * j) ≡ rowAt a₀ (mid + 2 * j) = row-agree a₀ a (mid + 2 * j) (f .low _ (omega arith)) (f .low _ (omega arith)) in
           made-as p (ap (λ (z : Row). collectRows (unlessClash z ++ rows a top s)) (e ∙ ap (joined m (packed w l)) y))
 
-      joins-cons : joins j ≡ these ++ joins (j + 1)
-      unfolding joinedAll eachRow
-      joins-cons = ap (λ (z : List Row). joinedAll m z (packed w l)) (rows-cons a₀ mid n₂ j h)
-
       pub joins-over : 64 < r → Made a₀ b top 0 (collectRows joins-goal) r
-      joins-over k = filling-over these (joins (j + 1)) (joins j) f (same-as joins-cons) one-join 0 k
+      joins-over k = filling-over these (joins m w l a₀ mid n₂ (j + 1)) (joins m w l a₀ mid n₂ j) f (same-as (joins-cons m w l a₀ mid n₂ j h)) one-join 0 k
 
-      pub joins-step : r ≤ 64 → Filling a₀ b top r (joins (j + 1)) joins-goal
-      joins-step k = filling-step these (joins (j + 1)) (joins j) f (same-as joins-cons) one-join k
+      pub joins-step : r ≤ 64 → Filling a₀ b top r (joins m w l a₀ mid n₂ (j + 1)) joins-goal
+      joins-step k = filling-step these (joins m w l a₀ mid n₂ (j + 1)) (joins m w l a₀ mid n₂ j) f (same-as (joins-cons m w l a₀ mid n₂ j h)) one-join k
 
     pub joins-end : n₂ ≤ j → Made a₀ a top 0 (collectRows joins-goal) s
-    unfolding joinedAll eachRow
-    joins-end h = filling-end 0 (joins j) f (ap (λ (z : List Row). joinedAll m z (packed w l)) (rows-done a₀ mid n₂ j h))
+    joins-end h = filling-end 0 (joins m w l a₀ mid n₂ j) f (joins-none m w l a₀ mid n₂ j h)
 
 -- ---- each row at base with those above
 module _ (m : Pairing) (a₀ : List ℕ) (base n₁ n₂ : ℕ) where
@@ -146,39 +146,43 @@ module _ (m : Pairing) (a₀ : List ℕ) (base n₁ n₂ : ℕ) where
       pub products-step : r ≤ 64 → Filling a₀ b top r (products (i + 1)) products-goal
       products-step k = filling-step (pairs m seconds (rowAt a₀ (base + 2 * i))) (products (i + 1)) (products i) f (same-as products-cons) next k
 
-    pub products-end : n₁ ≤ i → (b : List ℕ) → MovedDown a b base top n → Made a₀ b base 0 (collectRows products-goal) n
+    pub products-end : n₁ ≤ i → (b : List ℕ) → Copied a b base top n → Made a₀ b base 0 (collectRows products-goal) n
     unfolding product eachRow
     products-end h b l = made-lowered (filling-end 0 (products i) f (ap (λ (z : List Row). product m z seconds) (rows-done a₀ base n₁ i h))) (omega arith) (f .small) l
 
--- ---- one row with one
-module _ (m : Pairing) (a : List ℕ) (base : ℕ) where
-  abbrev single : List Row
-  single = product m (rows a base 1) (rows a (base + 2) 1)
+-- ---- one row with those above it, in place
+module _ (m : Pairing) (a₀ : List ℕ) (base n₂ : ℕ) where
+  abbrev pub single : List Row
+  single = product m (rows a₀ base 1) (rows a₀ (base + 2) n₂)
 
-  abbrev other : Row
-  other = packed (getD a (base + 2) 0) (getD a (base + 3) 0)
-
-  single-is : (xs : List Row) → pairs m (other ∷ []) (rowAt a base) ≡ xs → single ≡ xs
+  single-is : (xs : List Row) → pairs m (rows a₀ (base + 2) n₂) (rowAt a₀ base) ≡ xs → single ≡ xs
   unfolding product eachRow
-  single-is xs e =
-      let i : base + 2 + 1 ≡ base + 3 = omega arith in
-      ap (λ (z : List Row). product m z (rows a (base + 2) 1)) (rows-one a base 1 refl) ∙ ap (λ (z : List Row). product m (rowAt a base ∷ []) z) (rows-one a (base + 2) 1 refl)
-      ∙ ap (λ (z : ℕ). product m (rowAt a base ∷ []) (packed (getD a (base + 2) 0) (getD a z 0) ∷ [])) i ∙ append-nil (pairs m (other ∷ []) (rowAt a base)) ∙ e
+  single-is xs e = ap (λ (z : List Row). product m z (rows a₀ (base + 2) n₂)) (rows-one a₀ base 1 refl) ∙ append-nil (pairs m (rows a₀ (base + 2) n₂) (rowAt a₀ base)) ∙ e
 
-  pub single-alone : (b : Bool) → base + 4 ≤ length a → Alone m (getD a base 0) b → b ≡ true → Made a a base 0 (collectRows single) 1
+  pub single-alone : (b : Bool) → base + 2 ≤ length a₀ → Alone m (getD a₀ base 0) b → b ≡ true → Made a₀ a₀ base 0 (collectRows single) 1
   unfolding rows collectRows sortedRows insertRow
   single-alone b h k e =
-      made-there a base 0 1 (collectRows single) (omega arith) (omega arith) (λ v i. absurd i, tt)
-      (ap collectRows (single-is (rowAt a base ∷ []) (k .kept e (other ∷ []) (getD a (base + 1) 0))) ∙ cap-some (rowAt a base ∷ []) (omega arith))
+      made-there a₀ base 0 1 (collectRows single) (omega arith) (omega arith) (λ v i. absurd i, tt)
+      (ap collectRows (single-is (rowAt a₀ base ∷ []) (k .kept e (rows a₀ (base + 2) n₂) (getD a₀ (base + 1) 0))) ∙ cap-some (rowAt a₀ base ∷ []) (omega arith))
 
-  module _ (b : Bool) (k : Alone m (getD a base 0) b) (e : b ≡ false) (x r : ℕ) (g : packed x r ≡ joined m (rowAt a base) other) where
-    single-joined : single ≡ unlessClash (packed x r)
-    single-joined = single-is (unlessClash (packed x r)) (k .met e (other ∷ []) (getD a (base + 1) 0) ∙ joined-one m (rowAt a base) other ∙ ap unlessClash (sym g))
+  abbrev pub single-joins : ℕ → List Row
+  single-joins = joins m (getD a₀ base 0) (getD a₀ (base + 1) 0) a₀ (base + 2) n₂
 
-    pub single-clash : base + 4 ≤ length a → clashes (conditionIn x) ≡ true → Made a a base 0 (collectRows single) 0
-    unfolding collectRows sortedRows
-    single-clash h c = made-as (made-empty a base (omega arith)) (sym (ap collectRows (single-joined ∙ clash-none x r c) ∙ cap-some [] (omega arith)))
+  pub single-start : (b : Bool) → base ≤ length a₀ → Alone m (getD a₀ base 0) b → b ≡ false → Passing a₀ a₀ base 0 0 (base + 2 + 2 * 0) (single-joins 0) single
+  single-start b h k e =
+      passing-start a₀ base (base + 2 + 2 * 0) (single-joins 0) single
+      (ap (λ (z : List Row). joinedAll m z (rowAt a₀ base)) (rows-whole a₀ (base + 2) n₂)
+      ∙ sym (single-is (joinedAll m (rows a₀ (base + 2) n₂) (rowAt a₀ base)) (k .met e (rows a₀ (base + 2) n₂) (getD a₀ (base + 1) 0)))) h
 
-    pub single-one : {d : List ℕ} {s : ℕ} → clashes (conditionIn x) ≡ false → Made a d base 0 (some (packed x r ∷ [])) s → Made a d base 0 (collectRows single) s
-    unfolding collectRows sortedRows insertRow
-    single-one c p = made-as p (sym (ap collectRows (single-joined ∙ clash-one x r c) ∙ cap-some (packed x r ∷ []) (omega arith)))
+  module _ (a : List ℕ) (n j : ℕ) (t : Passing a₀ a base n j (base + 2 + 2 * j) (single-joins j) single) where
+    pub single-step : (b : List ℕ) (r : ℕ) (x : Row) → j < n₂ → n₂ ≤ 64 → x ≡ joined m (rowAt a₀ base) (rowAt a (base + 2 + 2 * j)) → Put a b base n (collectRows (unlessClash x ++ rows a base n)) r
+        → Passing a₀ b base r (j + 1) (base + 2 + 2 * (j + 1)) (single-joins (j + 1)) single
+    single-step b r x h k e p =
+        let d = t .behind in
+        let y : rowAt a (base + 2 + 2 * j) ≡ rowAt a₀ (base + 2 + 2 * j) = row-agree a₀ a (base + 2 + 2 * j) (t .rest _ (omega arith)) (t .rest _ (omega arith)) in
+        let these : Row = joined m (rowAt a₀ base) (rowAt a₀ (base + 2 + 2 * j)) in
+        passing-step (unlessClash these) (single-joins (j + 1)) (single-joins j) (base + 2 + 2 * (j + 1)) t (joins-cons m (getD a₀ base 0) (getD a₀ (base + 1) 0) a₀ (base + 2) n₂ j h)
+        (put-as a base n (unlessClash these) (unlessClash x) (ap unlessClash (sym (e ∙ ap (joined m (rowAt a₀ base)) y))) p) (omega arith) (omega arith) (omega arith)
+
+    pub single-end : n₂ ≤ j → Made a₀ a base 0 (collectRows single) n
+    single-end h = filling-end 0 (single-joins j) (t .filling) (joins-none m (getD a₀ base 0) (getD a₀ (base + 1) 0) a₀ (base + 2) n₂ j h)

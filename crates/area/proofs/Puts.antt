@@ -15,7 +15,7 @@ use Rattle.area.specs.inner.Area.{rowAt, rows, InOrder, Low, Put, Search
 use Rattle.esterel.proofs.RowOrder.{row-same}
 use Rattle.area.proofs.Order.{insert-in-order, sorted-there}
 use Rattle.area.proofs.Members.{same-again, collect-same, cap-some, cap-none}
-use Rattle.area.proofs.Rows.{rows-move, rows-agree, rows-split, rows-length, rows-mem, rows-cons, rows-whole, insert-rows}
+use Rattle.area.proofs.Rows.{rows-copy, rows-agree, rows-split, rows-length, rows-mem, rows-cons, rows-whole, insert-rows}
 
 -- p is the place that the search found for (w, l); t says whether it is there
 module _ (a : List ℕ) (base n w l p : ℕ) (small : n ≤ 64) (fits : base + 2 * n + 2 ≤ length a) (rise : InOrder (rows a base n)) (found : Searched a base n (packed w l) p)
@@ -79,7 +79,7 @@ module _ (a : List ℕ) (base n w l p : ℕ) (small : n ≤ 64) (fits : base + 2
         let x : rowAt c (base + 2 * p) ≡ packed w l = ap (λ (y : ℕ). packed y (getD c (base + 2 * p + 1) 0)) (s .first) ∙ ap (packed w) (s .second) in
         let front : rows c base p ≡ rows a base p = rows-agree a c base p (λ i d f. low i (omega arith)) in
         let back : rows c (base + 2 * p + 2) (n - p) ≡ rows a (base + 2 * p) (n - p) =
-        rows-agree b c (base + 2 * p + 2) (n - p) (λ i d f. s .high i d) ∙ sym (rows-move 2 b a (base + 2 * p) (n - p) (λ i d f. sym (o .moved i d (omega arith)))) in
+        rows-agree b c (base + 2 * p + 2) (n - p) (λ i d f. s .high i d) ∙ sym (rows-copy b a (base + 2 * p) (base + 2 * p + 2) (n - p) (λ i j d f e. let y : j ≡ i + 2 = omega arith in sym (ap (λ (x : ℕ). getD b x 0) y ∙ o .moved i d (omega arith)))) in
         let q : n + 1 ≡ p + (n - p + 1) = omega arith in
         let i : base + 2 * p + 2 * (0 + 1) ≡ base + 2 * p + 2 = omega arith in
         let u : n - p + 1 - (0 + 1) ≡ n - p = omega arith in

@@ -80,25 +80,18 @@ packed-eq w l v m h k =
 pub row-agree : (a b : List ℕ) (q : ℕ) → getD b q 0 ≡ getD a q 0 → getD b (q + 1) 0 ≡ getD a (q + 1) 0 → rowAt b q ≡ rowAt a q
 row-agree a b q e f = ap (λ (z : ℕ). packed z (getD b (q + 1) 0)) e ∙ ap (packed (getD a q 0)) f
 
-pub rows-move : (s : ℕ) (a b : List ℕ) (q n : ℕ) → ((i : ℕ) → q ≤ i → i < q + 2 * n → getD b i 0 ≡ getD a (i + s) 0) → rows b q n ≡ rows a (q + s) n
+-- rows whose words stand elsewhere too
+pub rows-copy : (a b : List ℕ) (q p n : ℕ) → ((i j : ℕ) → q ≤ i → i < q + 2 * n → i + p ≡ j + q → getD b i 0 ≡ getD a j 0) → rows b q n ≡ rows a p n
 unfolding rows
-rows-move s a b q zero f = refl
-rows-move s a b q (suc n) f =
-    let e : getD b q 0 ≡ getD a (q + s) 0 = f q (omega arith) (omega arith) in
-    let i : q + 1 + s ≡ q + s + 1 = omega arith in
-    let g : getD b (q + 1) 0 ≡ getD a (q + s + 1) 0 = f (q + 1) (omega arith) (omega arith) ∙ ap (λ (z : ℕ). getD a z 0) i in
-    let j : q + 2 + s ≡ q + s + 2 = omega arith in
-    let t : rows b (q + 2) n ≡ rows a (q + s + 2) n = rows-move s a b (q + 2) n (λ i h k. f i (omega arith) (omega arith)) ∙ ap (λ (z : ℕ). rows a z n) j in
+rows-copy a b q p zero f = refl
+rows-copy a b q p (suc n) f =
+    let e : getD b q 0 ≡ getD a p 0 = f q p (omega arith) (omega arith) (omega arith) in
+    let g : getD b (q + 1) 0 ≡ getD a (p + 1) 0 = f (q + 1) (p + 1) (omega arith) (omega arith) (omega arith) in
+    let t : rows b (q + 2) n ≡ rows a (p + 2) n = rows-copy a b (q + 2) (p + 2) n (λ i j h k l. f i j (omega arith) (omega arith) (omega arith)) in
     cc
 
 pub rows-agree : (a b : List ℕ) (q n : ℕ) → ((i : ℕ) → q ≤ i → i < q + 2 * n → getD b i 0 ≡ getD a i 0) → rows b q n ≡ rows a q n
-unfolding rows
-rows-agree a b q zero f = refl
-rows-agree a b q (suc n) f =
-    let e : getD b q 0 ≡ getD a q 0 = f q (omega arith) (omega arith) in
-    let g : getD b (q + 1) 0 ≡ getD a (q + 1) 0 = f (q + 1) (omega arith) (omega arith) in
-    let t : rows b (q + 2) n ≡ rows a (q + 2) n = rows-agree a b (q + 2) n (λ i h k. f i (omega arith) (omega arith)) in
-    cc
+rows-agree a b q n f = rows-copy a b q q n (λ i j h k e. let z : i ≡ j = omega arith in f i h k ∙ ap (λ (x : ℕ). getD a x 0) z)
 
 rows-head : (a : List ℕ) (q n : ℕ) → 0 < n → rows a q n ≡ rowAt a q ∷ rows a (q + 2) (n - 1)
 unfolding rows

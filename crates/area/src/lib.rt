@@ -15,7 +15,7 @@ ghost use Rattle.esterel.specs.inner.Rows.{reactions, localRow};
 ghost use Rattle.esterel.specs.inner.CappedRows.{beforeRow, collectRows};
 ghost use Rattle.area.specs.inner.Layout.{conditionIn, packed};
 ghost use Rattle.area.specs.inner.Rules.{unlessClash, changed, joined, joinedAll, pairs, product as productOf};
-ghost use Rattle.area.specs.inner.Area.{rowAt, rows, InOrder, Alone, Made, Put, Searched, MovedUp, Stored, MovedDown, Altered, Beside, Merged};
+ghost use Rattle.area.specs.inner.Area.{rowAt, rows, InOrder, Alone, Made, Put, Searched, MovedUp, Stored, Copied, Taken, Split, Altered, Beside, Merged};
 
 // The most rows of a list.
 pub const MOST: usize = 64;
@@ -209,11 +209,14 @@ fn store(area: &mut [u64], q: usize, w: u64, l: u64)
     area[q + 1] = l;
 }
 
-// The n rows at f copied down to t.
-fn lower(area: &mut [u64], t: usize, f: usize, n: usize)
-    requires { ⌜ (t ≤ f) × (f + 2 * n ≤ length (now area)) ⌝ }
-    ensures { λ _. ⌜ MovedDown (now (area .entry)) (now (area .exit)) t f n ⌝ }
+// The n rows at f copied to t: down, or up to where none of them stands, or not at all where they stand there.
+fn copy(area: &mut [u64], t: usize, f: usize, n: usize)
+    requires { ⌜ (t + 2 * n ≤ length (now area)) × (f + 2 * n ≤ length (now area)) × (f < t → f + 2 * n ≤ t) ⌝ }
+    ensures { λ _. ⌜ Copied (now (area .entry)) (now (area .exit)) t f n ⌝ }
 {
+    if t == f {
+        return;
+    }
     let m = 2 * n;
     let mut j = 0;
     while j < m {
@@ -471,24 +474,28 @@ fn add_pairs(
     add_joined(area, mid, n2, top, n, how, w, l)
 }
 
-// The product of two lists of one row each, which is most of what is asked for.
-fn product_of_one(area: &mut [u64], base: usize, how: Pairing) -> usize
-    requires { ⌜ base + 4 ≤ length (now area) ⌝ }
-    ensures { λ r. ⌜ Made (now (area .entry)) (now (area .exit)) base 0 (collectRows (productOf how (rows (now (area .entry)) base 1) (rows (now (area .entry)) (base + 2) 1))) r ⌝ }
+// The product of the row at base and the n2 above it, in place: what is put at base stays below what is still to be read.
+fn product_of_one(area: &mut [u64], base: usize, n2: usize, how: Pairing) -> usize
+    requires { ⌜ (n2 ≤ 64) × (base + 2 + 2 * n2 ≤ length (now area)) ⌝ }
+    ensures { λ r. ⌜ Made (now (area .entry)) (now (area .exit)) base 0 (collectRows (productOf how (rows (now (area .entry)) base 1) (rows (now (area .entry)) (base + 2) n2))) r ⌝ }
 {
     let w = area[base];
     if alone(how, w) {
         return 1;
     }
     let l = area[base + 1];
-    let v = area[base + 2];
-    let m = area[base + 3];
-    let x = join(how, w, l, v, m);
-    let both = x.w;
-    if clashing(both) {
-        return 0;
+    let mid = base + 2;
+    let mut n = 0;
+    let mut j = 0;
+    while j < n2 {
+        let q = mid + 2 * j;
+        let v = area[q];
+        let m = area[q + 1];
+        let x = join(how, w, l, v, m);
+        n = put_unless_clash(area, base, n, x.w, x.l);
+        j += 1;
     }
-    one(area, base, both, x.l)
+    n
 }
 
 // Each of the n1 rows at base with each of the n2 above them, put together at top and moved down.
@@ -510,7 +517,7 @@ fn product_of_many(area: &mut [u64], base: usize, n1: usize, n2: usize, how: Pai
         }
         i += 1;
     }
-    lower(area, base, top, n);
+    copy(area, base, top, n);
     n
 }
 
@@ -523,9 +530,7 @@ pub fn product(area: &mut [u64], base: usize, n1: usize, n2: usize, how: Pairing
         return n2;
     }
     if n1 == 1 {
-        if n2 == 1 {
-            return product_of_one(area, base, how);
-        }
+        return product_of_one(area, base, n2, how);
     }
     if area.len() - base < 2 * n1 + 2 * n2 + SPARE {
         return CRAMPED;
@@ -533,60 +538,101 @@ pub fn product(area: &mut [u64], base: usize, n1: usize, n2: usize, how: Pairing
     product_of_many(area, base, n1, n2, how)
 }
 
-// Whether to take the i-th of the first list next, or else the j-th of the second: one that is there.
-fn first(area: &[u64], base: usize, i: usize, n1: usize, mid: usize, j: usize, n2: usize) -> bool
-    requires { ⌜ (i ≤ n1) × (j ≤ n2) × (i + j < n1 + n2) × (base + 2 * n1 ≤ length (now area)) × (mid + 2 * n2 ≤ length (now area)) ⌝ }
-    ensures { λ r. ⌜ (r ≡ true → i < n1) × (r ≡ false → j < n2) ⌝ }
+// Whether the row at p is below the one at q.
+fn below(area: &[u64], p: usize, q: usize) -> bool
+    requires { ⌜ (p + 2 ≤ length (now area)) × (q + 2 ≤ length (now area)) ⌝ }
+    ensures { λ r. ⌜ r ≡ beforeRow (rowAt (now (area .entry)) p) (rowAt (now (area .entry)) q) ⌝ }
 {
-    if j == n2 {
-        return true;
-    }
-    if i == n1 {
-        return false;
-    }
-    let p = base + 2 * i;
-    let q = mid + 2 * j;
     less(area[p], area[p + 1], area[q], area[q + 1])
 }
 
-// The row at p put among the n at top.
-fn carry(area: &mut [u64], p: usize, top: usize, n: usize) -> usize
-    requires { ⌜ (n ≤ 64) × (p + 2 ≤ top) × (top + 130 ≤ length (now area)) × InOrder (rows (now area) top n) ⌝ }
-    ensures { λ r. ⌜ Made (now (area .entry)) (now (area .exit)) top 0 (collectRows (rowAt (now (area .entry)) p ∷ rows (now (area .entry)) top n)) r ⌝ }
+// The row at p set behind the n at base.
+fn take(area: &mut [u64], base: usize, n: usize, p: usize) -> usize
+    requires { ⌜ (base + 2 * n + 2 ≤ length (now area)) × (p + 2 ≤ length (now area)) ⌝ }
+    ensures { λ r. ⌜ Taken (now (area .entry)) (now (area .exit)) base n p r ⌝ }
 {
     let w = area[p];
     let l = area[p + 1];
-    put(area, top, n, w, l)
+    store(area, base + 2 * n, w, l);
+    n + 1
 }
 
-// The smaller head of the two lists put at top, until both are used up, and all of it moved down.
+// The u rows at q set behind the n at base, all of them in order.
+fn take_all(area: &mut [u64], base: usize, n: usize, q: usize, u: usize) -> usize
+    requires { ⌜ (base + 2 * n ≤ q) × (q + 2 * u ≤ length (now area)) × InOrder (rows (now area) base n ++ rows (now area) q u) ⌝ }
+    ensures { λ r. ⌜ Made (now (area .entry)) (now (area .exit)) base 0 (collectRows (rows (now (area .entry)) base n ++ rows (now (area .entry)) q u)) r ⌝ }
+{
+    copy(area, base + 2 * n, q, u);
+    let all = n + u;
+    if MOST < all {
+        return OVER;
+    }
+    all
+}
+
+// The n1 rows at top and the n2 at mid set behind the kept ones at base, the smaller head first, and equal heads once.
+fn merge_down(
+    area: &mut [u64],
+    base: usize,
+    kept: usize,
+    top: usize,
+    n1: usize,
+    mid: usize,
+    n2: usize,
+) -> usize
+    requires { ⌜ Split (now area) base kept top n1 mid n2 ⌝ }
+    ensures { λ r. ⌜ Made (now (area .entry)) (now (area .exit)) base 0 (collectRows (rows (now (area .entry)) base kept ++ (rows (now (area .entry)) top n1 ++ rows (now (area .entry)) mid n2))) r ⌝ }
+{
+    let mut n = kept;
+    let mut i = 0;
+    let mut j = 0;
+    while i < n1 {
+        let p = top + 2 * i;
+        if j == n2 {
+            return take_all(area, base, n, p, n1 - i);
+        }
+        let q = mid + 2 * j;
+        if below(area, p, q) {
+            n = take(area, base, n, p);
+            i += 1;
+            continue;
+        }
+        if below(area, q, p) {
+            n = take(area, base, n, q);
+            j += 1;
+            continue;
+        }
+        n = take(area, base, n, q);
+        i += 1;
+        j += 1;
+    }
+    take_all(area, base, n, mid + 2 * j, n2 - j)
+}
+
+// How many of the n1 rows at base stay where they are: those before the last that is not above the row behind them.
+fn staying(area: &[u64], base: usize, n1: usize) -> usize
+    requires { ⌜ base + 2 * n1 + 2 ≤ length (now area) ⌝ }
+    ensures { λ r. ⌜ (r ≤ n1) × (0 < r → (r < n1) × (beforeRow (rowAt (now (area .entry)) (base + 2 * n1)) (rowAt (now (area .entry)) (base + 2 * r)) ≡ false)) ⌝ }
+{
+    let mid = base + 2 * n1;
+    let p = place(area, base, n1, area[mid], area[mid + 1]);
+    if p == 0 {
+        return 0;
+    }
+    p - 1
+}
+
+// The n1 rows at base and the n2 above them; those of the first list that have to move are copied above the second.
 fn merge_both(area: &mut [u64], base: usize, n1: usize, n2: usize) -> usize
-    requires { ⌜ base + 2 * n1 + 2 * n2 + 130 ≤ length (now area) ⌝ }
+    requires { ⌜ (0 < n2) × (n2 ≤ 64) × (base + 2 * n1 + 2 * n2 + 130 ≤ length (now area)) × Beside (now area) base n1 n2 ⌝ }
     ensures { λ r. ⌜ Made (now (area .entry)) (now (area .exit)) base 0 (collectRows (rows (now (area .entry)) base n1 ++ rows (now (area .entry)) (base + 2 * n1) n2)) r ⌝ }
 {
     let mid = base + 2 * n1;
     let top = mid + 2 * n2;
-    let all = n1 + n2;
-    let mut n = 0;
-    let mut i = 0;
-    let mut j = 0;
-    while i + j < all {
-        if first(area, base, i, n1, mid, j, n2) {
-            n = carry(area, base + 2 * i, top, n);
-            if MOST < n {
-                return n;
-            }
-            i += 1;
-            continue;
-        }
-        n = carry(area, mid + 2 * j, top, n);
-        if MOST < n {
-            return n;
-        }
-        j += 1;
-    }
-    lower(area, base, top, n);
-    n
+    let kept = staying(area, base, n1);
+    let rest = n1 - kept;
+    copy(area, top, base + 2 * kept, rest);
+    merge_down(area, base, kept, top, rest, mid, n2)
 }
 
 // The n1 rows at base and the n2 above them, each in order, as one list; n2 itself where it says that there is none.
@@ -602,6 +648,10 @@ pub fn merge(area: &mut [u64], base: usize, n1: usize, n2: usize) -> usize
     }
     if n2 == 0 {
         return n1;
+    }
+    let mid = base + 2 * n1;
+    if below(area, base + 2 * (n1 - 1), mid) {
+        return take_all(area, base, n1, mid, n2);
     }
     if area.len() - base < 2 * n1 + 2 * n2 + SPARE {
         return CRAMPED;

@@ -7,7 +7,7 @@ use Rattle.area.proofs.add_joined.Statement.{statement}
 use Rattle.area.proofs.add_joined.Tie as tie
 
 abbrev Inv-loop : tie.InvT-loop
-Inv-loop area₀ mid n2 top n how w l count₀ j₀ area count j = (j ≤ n2) × Filling area₀ area top count (joins how w l area₀ mid n2 top n j) (joins-goal how w l area₀ mid n2 top n)
+Inv-loop area₀ mid n2 top n how w l count₀ j₀ area count j = (j ≤ n2) × Filling area₀ area top count (joins how w l area₀ mid n2 j) (joins-goal how w l area₀ mid n2 top n)
 
 abbrev μ-loop : tie.MeasureT-loop
 μ-loop area₀ mid n2 top n how w l count₀ j₀ area count j = n2 - j

@@ -1,13 +1,14 @@
 -- The invariant: i rows are read, and what became of them stands at base.
-use Prim.Native.Nat.{_-_}
+use Prim.Native.Nat.{_+_, _*_, _-_, _≤_}
 use mathlib.Core.Path.{refl}
-use Rattle.area.proofs.Changes.{Altering, altering-start, altering-step, altering-end}
+use Rattle.area.proofs.Made.{Passing}
+use Rattle.area.proofs.Changes.{changes, changes-goal, altering-start, altering-step, altering-end}
 use native.Mathlib.Omega.{arith}
 use Rattle.area.proofs.alter.Statement.{statement}
 use Rattle.area.proofs.alter.Tie as tie
 
 abbrev Inv-loop : tie.InvT-loop
-Inv-loop area₀ base n change m₀ i₀ area m i = Altering change area₀ area base n m i
+Inv-loop area₀ base n change m₀ i₀ area m i = (i ≤ n) × Passing area₀ area base m i (base + 2 * i) (changes change area₀ base n i) (changes-goal change area₀ base n)
 
 abbrev μ-loop : tie.MeasureT-loop
 μ-loop area₀ base n change m₀ i₀ area m i = n - i
@@ -17,8 +18,9 @@ returns c = record { small = λ h. absurd (omega arith); large = λ h. (refl, re
 
 loop-holds : tie.Need-loop-holds Inv-loop μ-loop
 loop-holds c =
-    altering-start (c .before .before .args .change) (c .before .before .args .area .now) (c .before .before .args .base) (c .before .before .args .n)
-    (let h = c .before .before .pre (c .if1 .left) in omega arith)
+    let s = c .before .before in
+    let h = s .pre (c .if1 .left) in
+    (omega arith, altering-start (s .args .change) (s .args .area .now) (s .args .base) (s .args .n) (omega arith))
 
 mul-q : tie.Need-mul-q Inv-loop μ-loop
 mul-q c = omega arith
@@ -30,7 +32,7 @@ mul-w : tie.Need-mul-w Inv-loop μ-loop
 mul-w c = omega arith
 
 slice-read-w : tie.Need-slice-read-w Inv-loop μ-loop
-slice-read-w c = omega (arith, c .before .before .before .before .before .pre (c .before .before .before .if1 .left), c .before .before .loop .inv .filling .same)
+slice-read-w c = omega (arith, c .before .before .before .before .before .pre (c .before .before .before .if1 .left), c .before .before .loop .inv .1 .filling .same)
 
 add-l : tie.Need-add-l Inv-loop μ-loop
 add-l c = omega arith
@@ -39,12 +41,12 @@ mul-l : tie.Need-mul-l Inv-loop μ-loop
 mul-l c = omega arith
 
 slice-read-l : tie.Need-slice-read-l Inv-loop μ-loop
-slice-read-l c = omega (arith, c .before .before .before .before .before .before .pre (c .before .before .before .before .if1 .left), c .before .before .before .loop .inv .filling .same)
+slice-read-l c = omega (arith, c .before .before .before .before .before .before .pre (c .before .before .before .before .if1 .left), c .before .before .before .loop .inv .1 .filling .same)
 
 alter-one-requires : tie.Need-alter-one-requires Inv-loop μ-loop
 alter-one-requires c κs =
     let u = c .before .before .before .before .before .before in
-    let t = c .before .before .before .before .loop .inv in
+    let t = c .before .before .before .before .loop .inv .1 in
     let h = u .before .pre (c .before .before .before .before .before .if1 .left) in
     (omega (arith, t .behind, c .before .before .before .before .before .if1 .left), omega (arith, t .behind, t .filling .same), t .filling .rising)
 
@@ -57,16 +59,23 @@ loop-less c = omega arith
 loop-again : tie.Need-loop-again Inv-loop μ-loop
 loop-again c =
     let u = c .before .before .before .before .before .before in
-    altering-step _ (u .before .before .before .before .args .area .now) (u .before .loop .area) _ _ _ _ (u .before .loop .inv) _ _ (u .loop-test .taken) (u .before .before .if1 .left)
-    (c .before .before .alter-one .ensures)
+    let s = u .before .before .before .before in (
+      omega arith,
+      altering-step (s .args .change) (s .args .area .now) (s .args .base) (s .args .n) (u .before .loop .area) (u .before .loop .m) (u .before .loop .i) (u .before .loop .inv .1) _ _
+          (u .loop-test .taken) (u .before .before .if1 .left) (c .before .before .alter-one .ensures),
+    )
 
 same-length : tie.Need-same-length Inv-loop μ-loop
 same-length c = omega arith
 
 returns-2 : tie.Need-returns-2 Inv-loop μ-loop
 returns-2 c =
-    record
-    { small = λ h. (altering-end _ (c .before .before .before .before .args .area .now) (c .before .loop .area) _ _ _ _ (c .before .loop .inv) (c .loop-test .left), omega arith); large = λ h. absurd (omega arith) }
+    let s = c .before .before .before .before in
+    let t = c .before .loop .inv in
+    record {
+      small = λ h. (altering-end (s .args .change) (s .args .area .now) (s .args .base) (s .args .n) (c .before .loop .area) (c .before .loop .m) (c .before .loop .i) (t .1) (c .loop-test .left), omega (arith, t .0, t .1 .behind));
+      large = λ h. absurd (omega arith);
+    }
 
 pub alter-spec : {M : Type 1} → statement M
 alter-spec =

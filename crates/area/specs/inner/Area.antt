@@ -1,7 +1,7 @@
 -- Lists of rows in a lent area of words, two words a row.
 use mathlib.Core.Path.{_≡_}
 use mathlib.Core.Bool.{Bool, true, false}
-use mathlib.Core.List.{List, [], _∷_}
+use mathlib.Core.List.{List, [], _∷_, _++_}
 use mathlib.Core.Option.{none, some}
 use Prim.Native.Nat.{ℕ, zero, suc, _+_, _*_, _≤_, _<_}
 use lib.ListN.{length, getD}
@@ -74,10 +74,27 @@ pub record Stored (a b : List ℕ) (q w l : ℕ) : Type 0 where
   pub high : (i : ℕ) → q + 2 ≤ i → getD b i 0 ≡ getD a i 0
 
 -- the n rows at f stand at t
-pub record MovedDown (a b : List ℕ) (t f n : ℕ) : Type 0 where
+pub record Copied (a b : List ℕ) (t f n : ℕ) : Type 0 where
   pub same : length b ≡ length a
   pub low : Low t a b
   pub moved : rows b t n ≡ rows a f n
+
+-- the row at p stands behind the n at base, and nothing else was touched
+pub record Taken (a b : List ℕ) (base n p r : ℕ) : Type 0 where
+  pub count : r ≡ n + 1
+  pub same : length b ≡ length a
+  pub low : Low (base + 2 * n) a b
+  pub row : rowAt b (base + 2 * n) ≡ rowAt a p
+  pub high : (i : ℕ) → base + 2 * n + 2 ≤ i → getD b i 0 ≡ getD a i 0
+
+-- The n rows at base go on, in order, with the n₁ at top, and with the n₂ at mid. Below mid there is room for the n₁ too, so that
+-- rows set behind the n stay below those at mid that are not taken yet.
+pub record Split (a : List ℕ) (base n top n₁ mid n₂ : ℕ) : Type 0 where
+  pub below : base + 2 * (n + n₁) ≤ mid
+  pub between : mid + 2 * n₂ ≤ top
+  pub within : top + 2 * n₁ ≤ length a
+  pub first : InOrder (rows a base n ++ rows a top n₁)
+  pub second : InOrder (rows a base n ++ rows a mid n₂)
 
 -- each of the n rows at base was changed, unless n says that there is no list
 pub record Altered (c : Change) (a b : List ℕ) (base n r : ℕ) : Type 0 where

@@ -1,22 +1,25 @@
 -- The invariant: j words are copied, and the others are as they were.
+use native.Mathlib.Omega.{arith}
 use Prim.Native.Nat.{_-_}
 use mathlib.Core.Path.{refl}
-use Rattle.area.proofs.Moves.{Lowering, lowering-step, lowering-end}
-use native.Mathlib.Omega.{arith}
-use Rattle.area.proofs.lower.Statement.{statement}
-use Rattle.area.proofs.lower.Tie as tie
+use Rattle.area.proofs.Moves.{Copying, copying-step, copying-end, copied-there}
+use Rattle.area.proofs.copy.Statement.{statement}
+use Rattle.area.proofs.copy.Tie as tie
 
 abbrev Inv-loop : tie.InvT-loop
-Inv-loop area₀ t f n m j₀ area j = Lowering area₀ area t f m j
+Inv-loop area₀ t f n m j₀ area j = Copying area₀ area t f m j
 
 abbrev μ-loop : tie.MeasureT-loop
 μ-loop area₀ t f n m j₀ area j = m - j
+
+returns : tie.Need-returns Inv-loop μ-loop
+returns c = copied-there (c .before .args .area .now) (c .before .args .t) (c .before .args .f) (c .before .args .n) (c .if1 .taken)
 
 mul-m : tie.Need-mul-m Inv-loop μ-loop
 mul-m c = omega arith
 
 loop-holds : tie.Need-loop-holds Inv-loop μ-loop
-loop-holds c = record { to = omega arith; same = refl; low = λ i h. refl; done = λ i h k. absurd (omega arith); high = λ i h. refl }
+loop-holds c = record { to = omega arith; same = refl; low = λ i h. refl; done = λ i k h d e. absurd (omega arith); high = λ i h. refl }
 
 add-area : tie.Need-add-area Inv-loop μ-loop
 add-area c = omega arith
@@ -43,21 +46,26 @@ loop-less : tie.Need-loop-less Inv-loop μ-loop
 loop-less c = omega arith
 
 loop-again : tie.Need-loop-again Inv-loop μ-loop
-loop-again c = let s = c .before .before in
-    lowering-step (s .before .args .area .now) (s .loop .area) _ _ _ (s .loop .j) (s .loop .inv) (c .before .loop-test .taken) (s .before .pre .0) (s .before .pre .1)
+loop-again c =
+    let s = c .before .before in
+    let a = s .before .before in
+    copying-step (a .args .area .now) (s .loop .area) (a .args .t) (a .args .f) _ (s .loop .j) (s .loop .inv) (c .before .loop-test .taken) (a .pre .0) (a .pre .2)
 
 same-length : tie.Need-same-length Inv-loop μ-loop
 same-length c = c .before .loop .inv .same
 
-returns : tie.Need-returns Inv-loop μ-loop
-returns c = lowering-end _ _ _ _ (c .before .before .args .n) (c .before .loop .j) (c .before .loop .inv) (c .loop-test .left) (c .before .before .pre .0)
+returns-2 : tie.Need-returns-2 Inv-loop μ-loop
+returns-2 c =
+    let s = c .before .before .before in
+    copying-end (s .args .area .now) (c .before .loop .area) (s .args .t) (s .args .f) (s .args .n) (c .before .loop .j) (c .before .loop .inv) (c .loop-test .left)
 
-pub lower-spec : {M : Type 1} → statement M
-lower-spec =
+pub copy-spec : {M : Type 1} → statement M
+copy-spec =
     tie.close
     (tie.spec
     Inv-loop
     μ-loop
+    returns
     mul-m
     loop-holds
     add-area
@@ -70,4 +78,4 @@ lower-spec =
     loop-less
     loop-again
     same-length
-    returns)
+    returns-2)
