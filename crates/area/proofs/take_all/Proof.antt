@@ -22,7 +22,7 @@ same-length c = omega arith
 returns : tie.Need-returns
 returns c =
     let s = c .before .before .before .before .before .before in
-    taken-many (s .args .area .now) _ (s .args .base) (s .args .n) (s .args .q) (s .args .u) (s .pre .0) (s .pre .1) (s .pre .2) (c .before .before .before .copy .ensures) (c .if1 .taken)
+    taken-many (s .args .area .now) _ (s .args .base) (s .args .n) (s .args .q) (s .args .u) (s .pre .0) (s .pre .1) (s .pre .2) (c .before .before .before .copy .ensures) (omega (arith, c .if1 .taken))
 
 same-length-2 : tie.Need-same-length-2
 same-length-2 c = omega arith
