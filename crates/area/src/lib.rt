@@ -557,7 +557,7 @@ fn take(area: &mut [u64], base: usize, n: usize, p: usize) -> usize
     n + 1
 }
 
-// The u rows at q set behind the n at base, all of them in order.
+// The u rows at q set behind the n at base, all of them in order: one list, unless they are too many.
 fn take_all(area: &mut [u64], base: usize, n: usize, q: usize, u: usize) -> usize
     requires { ⌜ (base + 2 * n ≤ q) × (q + 2 * u ≤ length (now area)) × InOrder (rows (now area) base n ++ rows (now area) q u) ⌝ }
     ensures { λ r. ⌜ Made (now (area .entry)) (now (area .exit)) base 0 (collectRows (rows (now (area .entry)) base n ++ rows (now (area .entry)) q u)) r ⌝ }
@@ -609,7 +609,8 @@ fn merge_down(
     take_all(area, base, n, mid + 2 * j, n2 - j)
 }
 
-// How many of the n1 rows at base stay where they are: those before the last that is not above the row behind them.
+// How many of the n1 rows at base surely stay where they are when the row behind them comes among them: those before the last
+// that is not above it, which may be equal to it.
 fn staying(area: &[u64], base: usize, n1: usize) -> usize
     requires { ⌜ base + 2 * n1 + 2 ≤ length (now area) ⌝ }
     ensures { λ r. ⌜ (r ≤ n1) × (0 < r → (r < n1) × (beforeRow (rowAt (now (area .entry)) (base + 2 * n1)) (rowAt (now (area .entry)) (base + 2 * r)) ≡ false)) ⌝ }
@@ -635,7 +636,8 @@ fn merge_both(area: &mut [u64], base: usize, n1: usize, n2: usize) -> usize
     merge_down(area, base, kept, top, rest, mid, n2)
 }
 
-// The n1 rows at base and the n2 above them, each in order, as one list; n2 itself where it says that there is none.
+// The n1 rows at base and the n2 above them, each in order, as one list; n2 itself where it says that there is none. They are one
+// list as they stand where the last of the first is below the second.
 pub fn merge(area: &mut [u64], base: usize, n1: usize, n2: usize) -> usize
     requires { ⌜ Beside (now area) base n1 n2 ⌝ }
     ensures { λ r. ⌜ Merged _++_ (now (area .entry)) (now (area .exit)) base n1 n2 r ⌝ }

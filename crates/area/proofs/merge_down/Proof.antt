@@ -37,8 +37,9 @@ same-length c = omega arith
 
 returns : tie.Need-returns Inv-loop μ-loop
 returns c =
-    let l = c .before .before .before .before .before .before .loop in
-    let s = c .before .before .before .before .before .before .before .before in
+    let e = c .before .before .before .before .before .before in
+    let l = e .loop in
+    let s = e .before .before in
     merging-end-first (s .args .area .now) (s .args .base) (s .args .top) (s .args .n1) (s .args .mid) (s .args .n2) _ (l .area) _ (l .n) (l .i) (l .j) _ (l .inv .3) (omega (arith, c .before .before .before .before .if1 .taken)) (c .before .before .take-all .ensures)
 
 mul-q : tie.Need-mul-q Inv-loop μ-loop
@@ -56,8 +57,9 @@ below-requires c κs =
 
 take-requires : tie.Need-take-requires Inv-loop μ-loop
 take-requires c κs =
-    let l = c .before .before .before .before .before .before .loop in
-    let s = c .before .before .before .before .before .before .before .before in
+    let e = c .before .before .before .before .before .before in
+    let l = e .loop in
+    let s = e .before .before in
     (omega (arith, l .inv .3 .same, l .inv .2, s .pre .below, s .pre .between, s .pre .within, l .inv .1), omega (arith, l .inv .3 .same, s .pre .within))
 
 add-i : tie.Need-add-i Inv-loop μ-loop
@@ -82,8 +84,9 @@ loop-again c =
 
 below-requires-2 : tie.Need-below-requires-2 Inv-loop μ-loop
 below-requires-2 c κs =
-    let l = c .before .before .before .before .before .before .loop in
-    let s = c .before .before .before .before .before .before .before .before in
+    let e = c .before .before .before .before .before .before in
+    let l = e .loop in
+    let s = e .before .before in
     let h = c .before .before .before .before .if1 .left in
     (omega (arith, l .inv .3 .same, s .pre .within, s .pre .between, l .inv .1), omega (arith, l .inv .3 .same, s .pre .within))
 
@@ -104,8 +107,9 @@ loop-less-2 c = omega arith
 loop-again-2 : tie.Need-loop-again-2 Inv-loop μ-loop
 loop-again-2 c =
     let u = c .before .before .before .before .before .before in
-    let l = u .before .before .before .before .before .before .loop in
-    let s = u .before .before .before .before .before .before .before .before in
+    let e = u .before .before .before .before .before .before in
+    let l = e .loop in
+    let s = e .before .before in
     let h = u .before .before .before .before .if1 .left in
     let t = c .before .before .take2 .ensures in (
       l .inv .0,
@@ -135,8 +139,9 @@ loop-less-3 c = omega arith
 loop-again-3 : tie.Need-loop-again-3 Inv-loop μ-loop
 loop-again-3 c =
     let u = c .before .before .before .before .before .before in
-    let l = u .before .before .before .before .before .before .loop in
-    let s = u .before .before .before .before .before .before .before .before in
+    let e = u .before .before .before .before .before .before in
+    let l = e .loop in
+    let s = e .before .before in
     let h = u .before .before .before .before .if1 .left in
     let t = c .before .before .take3 .ensures in (
       omega (arith, u .before .before .before .before .before .loop-test .taken),
@@ -167,7 +172,8 @@ same-length-2 c = omega arith
 returns-2 : tie.Need-returns-2 Inv-loop μ-loop
 returns-2 c =
     let l = c .before .before .before .before .before .loop in
-    let s = c .before .before .before .before .before .before .before in
+    let e = c .before .before .before .before .before .before in
+    let s = e .before in
     merging-end-second (s .args .area .now) (s .args .base) (s .args .top) (s .args .n1) (s .args .mid) (s .args .n2) _ (l .area) _ (l .n) (l .i) (l .j) _ (l .inv .3) (c .before .before .before .before .loop-test .left) (c .before .before .take-all2 .ensures)
 
 pub merge-down-spec : {M : Type 1} → statement M

@@ -16,7 +16,8 @@ same-length c = omega arith
 
 returns-2 : tie.Need-returns-2
 returns-2 c =
-    let s = c .before .before .before .before .before .before .before in
+    let u = c .before .before .before .before .before .before in
+    let s = u .before in
     merged-one (productOf (s .args .how)) (s .args .area .now) _ (s .args .base) (s .args .n1) (s .args .n2) _ (c .before .before .before .before .if2 .taken) (c .before .before .before .before .before .if1 .left) (c .before .before .product-of-one .ensures)
 
 sub-if3 : tie.Need-sub-if3
