@@ -5,12 +5,13 @@
 // statement is usually listed once, with the signal unknown, and again with it present and with it absent only where that gives
 // up; a part that cannot react in the state is not visited.
 mod finding;
-mod marking;
+mod noting;
 mod preparing;
 mod writing;
 
 pub use finding::reactions;
 pub use preparing::prepare;
+use lister::COUNTS;
 use table::MOST_NODES;
 ghost use mathlib.Core.Path.{_≡_};
 ghost use Prim.Native.Nat.{_≤_};
@@ -18,7 +19,7 @@ ghost use lib.ListN.{length};
 ghost use Rattle.table.specs.Outcomes.{numberOf};
 ghost use Rattle.list.specs.Answers.{stateOf, answerOutcome};
 ghost use Rattle.list.specs.Buffers.{Lists, ListsBytes};
-ghost use Rattle.list.specs.inner.Preparing.{stateIn, NodeRoom};
+ghost use Rattle.list.specs.inner.Preparing.{stateIn, Rooms};
 ghost use Rattle.list.specs.inner.Finding.{ListsIn, ListsBytesIn};
 
 // The words of the area that is tried first.
@@ -73,13 +74,14 @@ fn list_with(
     l: &mut [u64],
     nodes: &mut [u16; MOST_NODES],
     ends: &mut [u16; MOST_NODES],
-    pauses: &mut [u64; MOST_NODES],
+    notes: &mut [u16; MOST_NODES],
+    unions: &mut [u64; COUNTS],
     area: &mut [u64],
 ) -> Answer
-    requires { ⌜ (128 ≤ length (now area)) × NodeRoom (now nodes) ⌝ }
+    requires { ⌜ (128 ≤ length (now area)) × Rooms (now nodes) (now ends) (now notes) (now unions) ⌝ }
     ensures { λ r. ⌜ ListsIn (now (table .entry)) assumed (stateIn state) r (now (o .entry)) (now (o .exit)) (now (k .entry)) (now (k .exit)) (now (l .entry)) (now (l .exit)) ⌝ }
 {
-    let answer = finding::find(table, assumed, state, nodes, ends, pauses, area);
+    let answer = finding::find(table, assumed, state, nodes, ends, notes, unions, area);
     let Answer::Listed(n) = answer else {
         return answer;
     };
@@ -100,7 +102,8 @@ pub fn list(
 {
     let mut nodes = [0u16; MOST_NODES];
     let mut ends = [0u16; MOST_NODES];
-    let mut pauses = [0u64; MOST_NODES];
+    let mut notes = [0u16; MOST_NODES];
+    let mut unions = [0u64; COUNTS];
     let mut area = [0u64; SMALL];
     let state = state_of(mark, labels);
     list_with(
@@ -112,7 +115,8 @@ pub fn list(
         l,
         &mut nodes,
         &mut ends,
-        &mut pauses,
+        &mut notes,
+        &mut unions,
         &mut area,
     )
 }
@@ -126,13 +130,14 @@ fn list_bytes_with(
     l: &mut [u8],
     nodes: &mut [u16; MOST_NODES],
     ends: &mut [u16; MOST_NODES],
-    pauses: &mut [u64; MOST_NODES],
+    notes: &mut [u16; MOST_NODES],
+    unions: &mut [u64; COUNTS],
     area: &mut [u64],
 ) -> Answer
-    requires { ⌜ (128 ≤ length (now area)) × NodeRoom (now nodes) ⌝ }
+    requires { ⌜ (128 ≤ length (now area)) × Rooms (now nodes) (now ends) (now notes) (now unions) ⌝ }
     ensures { λ r. ⌜ ListsBytesIn (now (table .entry)) assumed (stateIn state) r (now (o .entry)) (now (o .exit)) (now (k .entry)) (now (k .exit)) (now (l .entry)) (now (l .exit)) ⌝ }
 {
-    let answer = finding::find(table, assumed, state, nodes, ends, pauses, area);
+    let answer = finding::find(table, assumed, state, nodes, ends, notes, unions, area);
     let Answer::Listed(n) = answer else {
         return answer;
     };
@@ -153,7 +158,8 @@ pub fn list_bytes(
 {
     let mut nodes = [0u16; MOST_NODES];
     let mut ends = [0u16; MOST_NODES];
-    let mut pauses = [0u64; MOST_NODES];
+    let mut notes = [0u16; MOST_NODES];
+    let mut unions = [0u64; COUNTS];
     let mut area = [0u64; SMALL];
     let state = state_of(mark, labels);
     list_bytes_with(
@@ -165,7 +171,8 @@ pub fn list_bytes(
         l,
         &mut nodes,
         &mut ends,
-        &mut pauses,
+        &mut notes,
+        &mut unions,
         &mut area,
     )
 }

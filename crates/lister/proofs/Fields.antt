@@ -1,0 +1,42 @@
+-- The three numbers of a note, and a note with one signal statement more around.
+use mathlib.Core.Path.{_≡_}
+use Prim.Native.Nat.{ℕ, _+_, _<_, _≤_}
+use native.Mathlib.Omega.{arith}
+use borrow.Author.Tests.{lt-ltb, le-ltb}
+use Rattle.lister.specs.inner.Notes.{noteOf, fromOf, behindOf, nestOf, nestedOnce}
+
+module _ (from behind nest : ℕ) (f : from < 64) (b : behind < 64) where
+  pub from-note : fromOf (noteOf from behind nest) ≡ from
+  unfolding noteOf
+  from-note = omega arith
+
+  pub behind-note : behindOf (noteOf from behind nest) ≡ behind
+  unfolding noteOf
+  behind-note = omega arith
+
+  pub nest-note : nestOf (noteOf from behind nest) ≡ nest
+  unfolding noteOf
+  nest-note = omega arith
+
+-- a note is that of its numbers
+pub note-split : (note : ℕ) → noteOf (fromOf note) (behindOf note) (nestOf note) ≡ note
+unfolding noteOf
+note-split note = omega arith
+
+-- ---- one signal statement more
+pub once-more : (nest : ℕ) → nest < 13 → nestedOnce nest ≡ nest + 1
+unfolding nestedOnce
+once-more nest h = rw (lt-ltb nest 13 h)
+
+pub once-too-many : (nest : ℕ) → 13 ≤ nest → nestedOnce nest ≡ nest
+unfolding nestedOnce
+once-too-many nest h = rw (le-ltb nest 13 h)
+
+module _ (note : ℕ) where
+  pub note-deeper : nestOf note < 13 → note + 4096 ≡ noteOf (fromOf note) (behindOf note) (nestedOnce (nestOf note))
+  unfolding noteOf
+  note-deeper h = let e = once-more (nestOf note) h in omega arith
+
+  pub note-kept : 13 ≤ nestOf note → note ≡ noteOf (fromOf note) (behindOf note) (nestedOnce (nestOf note))
+  unfolding noteOf
+  note-kept h = let e = once-too-many (nestOf note) h in omega arith
