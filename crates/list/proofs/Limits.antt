@@ -25,7 +25,7 @@ use Rattle.table.specs.Reading.{Table, tableOf, nodesOf, checkOf, checkedOutcom
 use Rattle.table.specs.Reading as table
 use Rattle.table.specs.inner.Loading.{loadedAfter, loadedOf}
 use Rattle.table.specs.Writing.{nodes}
-use Rattle.table.specs.inner.Places.{statementOf, Known}
+use Rattle.table.specs.inner.Places.{statementOf}
 use Rattle.table.proofs.Cutting.{length-nodesOf}
 use Rattle.table.proofs.Accepted.{Holds, accepted}
 use Rattle.table.proofs.Loading.{load-refuses, load-holds, load-statement, load-size, load-loaded}
@@ -37,7 +37,7 @@ use Rattle.list.specs.declared.Answer.the-variants as answer
 use Rattle.list.specs.declared.Prepared.the-variants as prepared
 use Rattle.list.specs.Answers.{Listing, refused, listed, listFor, listingOutcome, answerOutcome}
 use Rattle.list.specs.inner.Notes.{Distinct, AllNoted, Passable, Counted}
-use Rattle.list.specs.inner.Preparing.{listAt, limited, Listable, Prepares}
+use Rattle.list.specs.inner.Preparing.{listAt, limited, Listable, NodeRoom, Prepares}
 use Rattle.list.specs.inner.Finding.{reactionsHeld, answerFor, Finds}
 use Rattle.list.proofs.Pauses.{distinct-nodes}
 use Rattle.list.proofs.Passing.{right-pauses, root-nest}
@@ -136,7 +136,7 @@ module _ (M : ℕ) (p : Statement) (x : State) (E : ℕ) {a b : List ℕ} {n : �
 
 -- ---- noted nodes can be listed
 module _ {n : ℕ} {xs : List ℕ} (s : Counted xs n) where
-  pub passable : Passable n xs
+  passable : Passable n xs
   passable = let e = s .count in let f = s .loaded .few in record { all = s .loaded .all; few = omega arith; known = s .loaded .known; distinct = s .distinct }
 
   root-whole : ReadWhole n xs 0
@@ -164,7 +164,7 @@ module _ {n : ℕ} {xs : List ℕ} (s : Counted xs n) where
     noted-listable : (M : ℕ) → Slotted M 0 → Listable xs ends notes unions M
     noted-listable M h = record { noted = noted-resumable; slots = h }
 
-    pub noted-nest : (nest : ℕ) → nest ≡ nestOf (getD notes 0 0) → nest ≡ min 13 (nesting (statementOf xs))
+    noted-nest : (nest : ℕ) → nest ≡ nestOf (getD notes 0 0) → nest ≡ min 13 (nesting (statementOf xs))
     noted-nest nest e = e ∙ root-nest passable (c .noted) root-whole
 
 -- ---- refusal 14
@@ -220,19 +220,28 @@ module _ (t old new : List ℕ) (c : Checked) (h : (checkedOutcome c ≡ checkOf
         let g : take n new ≡ nodes p = ap (take n) f ∙ take-at (nodesOf t n) (drop n old) n (length-nodesOf t n) ∙ k .nodes-are in
         subst Distinct (sym g) (distinct-nodes p (k .valid))
 
-    pub loaded-counted : length old ≡ 1024 → Known old → Counted new n
-    loaded-counted l k = record { loaded = load-loaded t old new c h n e l k; count = load-size t old new c h n e; distinct = loaded-distinct }
-
     at-loaded : (x : State) (E : ℕ) → listAt (tableOf t) x E ≡ listFor (statementOf new) x E
     unfolding listAt
     at-loaded x E =
         ap (λ (T : Table). listAt T x E) (load-holds t old new c h n e .1)
         ∙ sym (ap (λ (p : Statement). listFor p x E) (load-statement t old new c h n e))
 
-    module _ {ends notes unions : List ℕ} (s : Counted new n) (d : AllNoted 0 n new ends notes unions) (nest : ℕ) (g : nest ≡ nestOf (getD notes 0 0)) where
-      pub prepared-deep : 12 < nest → Prepares (tableOf t) (prepared.Refused 14) new ends notes unions
-      prepared-deep k = prepares-refused 14 (λ x E. at-loaded x E ∙ for-deep (statementOf new) nest (noted-nest s d nest g) k x E)
+    module _ (r : NodeRoom old) where
+      loaded-counted : Counted new n
+      loaded-counted = record { loaded = load-loaded t old new c h n e (r .all) (r .known); count = load-size t old new c h n e; distinct = loaded-distinct }
 
-      pub prepared-listable : nest ≤ 12 → (M : ℕ) → Slotted M 0 → Prepares (tableOf t) (prepared.Accepted M) new ends notes unions
-      prepared-listable k M q =
-          prepares-accepted M (noted-listable s d M q) (λ x E. at-loaded x E ∙ for-limited (statementOf new) nest (noted-nest s d nest g) k x E)
+      pub loaded-passable : Passable n new
+      loaded-passable = passable loaded-counted
+
+      module _ {ends notes unions : List ℕ} (d : AllNoted 0 n new ends notes unions) (nest : ℕ) (g : nest ≡ nestOf (getD notes 0 0)) where
+        nest-is : nest ≡ min 13 (nesting (statementOf new))
+        nest-is = noted-nest loaded-counted d nest g
+
+        pub never-unknown : nest ≡ 15 → ⊥
+        never-unknown k = omega (arith, nest-is, k)
+
+        pub prepared-deep : 12 < nest → Prepares (tableOf t) (prepared.Refused 14) new ends notes unions
+        prepared-deep k = prepares-refused 14 (λ x E. at-loaded x E ∙ for-deep (statementOf new) nest nest-is k x E)
+
+        pub prepared-listable : nest ≤ 12 → (M : ℕ) → Slotted M 0 → Prepares (tableOf t) (prepared.Accepted M) new ends notes unions
+        prepared-listable k M q = prepares-accepted M (noted-listable loaded-counted d M q) (λ x E. at-loaded x E ∙ for-limited (statementOf new) nest nest-is k x E)

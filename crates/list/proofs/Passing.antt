@@ -3,9 +3,10 @@
 use mathlib.Core.Path.{_≡_, refl, sym, ap, ap₂, _∙_, subst}
 use mathlib.Core.Bool.{Bool, true, false, not, _&&_, _||_}
 use mathlib.Core.List.{List, []}
-use Prim.Native.Nat.{ℕ, suc, _+_, _≤_, _<_, min, max}
+use Prim.Native.Nat.{ℕ, suc, _+_, _-_, _≤_, _<_, min, max}
 use native.Mathlib.Omega.{arith}
 use native.Mathlib.Decide.{decLt, ℕ-discrete}
+use lib.Bits.{or-comm}
 use lib.ListN.{length, take, drop, getD, set, length-set}
 use lib.Seq.{getD-set-same, getD-set-other, drop-length, length-take-le}
 use Rattle.sets.specs.Set.{has, only, _union_, _minus_, Apart}
@@ -24,6 +25,10 @@ use Rattle.list.proofs.Pauses.{here-pause, here-none, here-fresh, few-f
 -- ---- Sets
 union-apart : (a b c : ℕ) → Apart a c → Apart b c → Apart (a union b) c
 union-apart a b c f g = apart-sym c (a union b) (apart-union c a b (apart-sym a c f) (apart-sym b c g))
+
+union-comm : (a b : ℕ) → a union b ≡ b union a
+unfolding _union_
+union-comm a b = or-comm a b
 
 -- what is apart can be taken away again
 union-minus : (a b : ℕ) → Apart a b → (a union b) minus b ≡ a
@@ -294,11 +299,30 @@ module _ {n : ℕ} {xs : List ℕ} {at node behind : ℕ} {ends notes : List ℕ
           go (no g) (yes z) = noted-two sequence other (λ v. is-sequence v z) (λ p q. refl) (λ p q. refl) f
           go (no g) (no m) = noted-two parallel other (λ v. is-parallel v (omega (arith, kind-is k i, l, h, g, m))) (λ p q. refl) (λ p q. refl) f
 
+  -- ---- a count of pauses has its place in a note
+  pub few-behind : (behind < 64) × (kindOfNode node ≡ 1 → behind < 63)
+  few-behind = (omega (arith, c .counted, few-from (c .over) (at + 1)), λ k. less (here-pause (c .over) (c .inside) (sym (ap kindOfNode (c .here)) ∙ k) .0))
+    where
+      less : pausesFrom n xs at ≡ pausesFrom n xs (at + 1) + 1 → behind < 63
+      less e = omega (arith, c .counted, few-from (c .over) at, e)
+
   -- ---- no other kind
   pub never-noted : (k : ℕ) → k ≡ kindOfNode node → 11 ≤ k → ⊥
   never-noted k i h = not-known xs at k (c .over .known) (i ∙ ap kindOfNode (c .here)) h
 
 -- ---- The loop
+pub record Passed (n : ℕ) (xs ends notes unions : List ℕ) (at behind labels : ℕ) : Type 0 where
+  pub at-most : at ≤ n
+  pub all : AllNoted at n xs ends notes unions
+  pub counted : behind ≡ pausesFrom n xs at
+  pub named : labels ≡ labelsFrom n xs at
+
+-- before the next node
+pub one-back : {n : ℕ} {xs ends notes unions : List ℕ} {at behind labels : ℕ} → Passed n xs ends notes unions at behind labels → 0 < at → Passed n xs ends notes unions (at - 1 + 1) behind labels
+one-back {n} {xs} {ends} {notes} {unions} {at} {behind} {labels} q h =
+    let e : at ≡ at - 1 + 1 = omega arith in
+    subst (λ (z : ℕ). Passed n xs ends notes unions z behind labels) e q
+
 module _ {n : ℕ} {xs : List ℕ} (p : Passable n xs) where
   -- past the last node there is no pause
   past-all : onward n xs n ≡ []
@@ -345,6 +369,49 @@ module _ {n : ℕ} {xs : List ℕ} (p : Passable n xs) where
             let z = here-none p inside k in
             ap (λ (j : ℕ). getD unions (pausesFrom n xs j) 0) e ∙ ap (λ (j : ℕ). getD unions j 0) (z .0) ∙ u (at + 1) (omega arith) (omega arith) ∙ sym (z .1) ∙ ap (labelsFrom n xs) (sym e)
         go (no e) = u i (omega arith) l
+
+  -- ---- how far the pass is: what it has noted, the pauses that it has met, and their labels
+  module _ {ends notes : List ℕ} (unions : List ℕ) where
+    pub passed-none : NoteRoom ends notes → length unions ≡ 64 → Passed n xs ends notes (set unions 0 0) n 0 0
+    passed-none r l = record {
+      at-most = omega arith;
+      all = record { long = length-set unions 0 0 ∙ l; noted = no-notes r; united = first-union unions (omega arith) };
+      counted = none-behind .0;
+      named = none-behind .1;
+    }
+
+  module _ {ends notes unions : List ℕ} where
+    module _ {at behind labels : ℕ} (q : Passed n xs ends notes unions (at + 1) behind labels) where
+      inside : at < n
+      inside = let h = q .at-most in omega arith
+
+      pub came-to : CameTo n xs at (getD xs at 0) behind ends notes
+      came-to = record { over = p; inside = inside; here = refl; counted = q .counted; noted = q .all .noted }
+
+      module _ {ends′ notes′ : List ℕ} (c : NotesFrom at n xs ends′ notes′) where
+        pub passed-pause : {own more : ℕ} → kindOfNode (getD xs at 0) ≡ 1 → own ≡ operandOf (getD xs at 0) → more ≡ labels union only own
+            → Passed n xs ends′ notes′ (set unions (behind + 1) more) at (behind + 1) more
+        passed-pause {own} {more} k e f =
+            let h = here-pause p inside k in
+            let m : behind + 1 ≡ pausesFrom n xs at = ap (λ (z : ℕ). z + 1) (q .counted) ∙ sym (h .0) in
+            let l : more ≡ labelsFrom n xs at = f ∙ ap₂ (λ (y z : ℕ). y union only z) (q .named) e ∙ union-comm (labelsFrom n xs (at + 1)) (only (operandOf (getD xs at 0))) ∙ sym (h .1) in
+            let u = q .all .long in
+            record {
+              at-most = omega (arith, inside);
+              all = record { long = length-set unions (behind + 1) more ∙ u; noted = c; united = union-put inside unions (q .all .united) k u (behind + 1) more m l };
+              counted = m;
+              named = l;
+            }
+
+        pub passed-other : (kindOfNode (getD xs at 0) ≡ 1 → ⊥) → Passed n xs ends′ notes′ unions at behind labels
+        passed-other k =
+            let h = here-none p inside k in
+            record {
+              at-most = omega (arith, inside);
+              all = record { long = q .all .long; noted = c; united = union-kept inside unions (q .all .united) k };
+              counted = q .counted ∙ sym (h .0);
+              named = q .named ∙ sym (h .1);
+            }
 
   -- ---- the labels of each statement
   pub right-pauses : {ends notes unions : List ℕ} → AllNoted 0 n xs ends notes unions → PausesFrom 0 n xs notes unions

@@ -1,11 +1,10 @@
 -- By the answer of check, the nesting of the root, and the signals that were chosen.
 use native.Mathlib.Omega.{arith}
-use mathlib.Core.Path.{refl}
-use Rattle.list.proofs.Limits.{prepared-checked, loaded-counted, marked-nest, prepared-deep, prepared-listable}
+use Rattle.list.proofs.Limits.{prepared-checked, loaded-passable, never-unknown, prepared-deep, prepared-listable}
 use Rattle.list.proofs.Slotting.{taken-none, taken-slotted}
 use borrow.Author.Needs.{needs}
-use Rattle.list.proofs.preparing.prepare_with.Statement.{statement}
-use Rattle.list.proofs.preparing.prepare_with.Tie as tie
+use Rattle.list.proofs.preparing.prepare.Statement.{statement}
+use Rattle.list.proofs.preparing.prepare.Tie as tie
 
 load-requires : tie.Need-load-requires
 load-requires c κs = search needs
@@ -29,72 +28,70 @@ returns c =
 cast-count : tie.Need-cast-count
 cast-count c = search needs
 
-mark-front-requires : tie.Need-mark-front-requires
-mark-front-requires c κs =
+note-all-requires : tie.Need-note-all-requires
+note-all-requires c κs =
     let at-checked = c .before .before .before .before .before in
     let at-load = at-checked .before .before in
     let s = at-load .before .before .before in
-    let d = loaded-counted (s .args .table .now) (s .args .nodes .now) _ (at-load .load .result) (at-load .load .ensures) _ (at-checked .checked .given .1) (s .pre .all) (s .pre .known) in
-    let e = d .count in
-    let f = d .loaded .few in
-    (omega arith, d .loaded .known, omega arith, omega arith, omega arith)
+    (loaded-passable (s .args .table .now) (s .args .nodes .now) _ (at-load .load .result) (at-load .load .ensures) _ (at-checked .checked .given .1) (s .pre .nodes), s .pre .noted, s .pre .united)
 
-element-copy-out-nest : tie.Need-element-copy-out-nest
-element-copy-out-nest c = search needs
+element-copy-out-nest-of : tie.Need-element-copy-out-nest-of
+element-copy-out-nest-of c = search needs
+
+nest-of-requires : tie.Need-nest-of-requires
+nest-of-requires c κs = search needs
 
 returns-2 : tie.Need-returns-2
 returns-2 c =
-    let at-mark-front = c .before .before in
-    let at-checked = at-mark-front .before .before .before .before .before .before in
+    let at-nest-of = c .before in
+    let at-note-all = at-nest-of .before .before in
+    let at-checked = at-note-all .before .before .before .before .before .before in
     let at-load = at-checked .before .before in
     let s = at-load .before .before .before in
-    let d = loaded-counted (s .args .table .now) (s .args .nodes .now) _ (at-load .load .result) (at-load .load .ensures) _ (at-checked .checked .given .1) (s .pre .all) (s .pre .known) in
-    absurd (omega (arith, marked-nest d (at-mark-front .mark-front .ensures) _ refl, c .if1 .taken))
+    absurd (never-unknown (s .args .table .now) (s .args .nodes .now) _ (at-load .load .result) (at-load .load .ensures) _ (at-checked .checked .given .1) (s .pre .nodes) (at-note-all .note-all .ensures) _ (at-nest-of .nest-of .ensures) (c .if1 .taken))
 
 returns-3 : tie.Need-returns-3
 returns-3 c =
-    let at-mark-front = c .before .before .before in
-    let at-checked = at-mark-front .before .before .before .before .before .before in
+    let at-nest-of = c .before .before in
+    let at-note-all = at-nest-of .before .before in
+    let at-checked = at-note-all .before .before .before .before .before .before in
     let at-load = at-checked .before .before in
     let s = at-load .before .before .before in
-    let d = loaded-counted (s .args .table .now) (s .args .nodes .now) _ (at-load .load .result) (at-load .load .ensures) _ (at-checked .checked .given .1) (s .pre .all) (s .pre .known) in
-    prepared-deep (s .args .table .now) (s .args .nodes .now) _ (at-load .load .result) (at-load .load .ensures) _ (at-checked .checked .given .1) d (at-mark-front .mark-front .ensures) _ refl (c .if2 .taken)
+    prepared-deep (s .args .table .now) (s .args .nodes .now) _ (at-load .load .result) (at-load .load .ensures) _ (at-checked .checked .given .1) (s .pre .nodes) (at-note-all .note-all .ensures) _ (at-nest-of .nest-of .ensures) (c .if2 .taken)
 
 returns-4 : tie.Need-returns-4
 returns-4 c =
     let at-if2 = c .before in
-    let at-mark-front = at-if2 .before .before .before in
-    let at-checked = at-mark-front .before .before .before .before .before .before in
+    let at-nest-of = at-if2 .before .before in
+    let at-note-all = at-nest-of .before .before in
+    let at-checked = at-note-all .before .before .before .before .before .before in
     let at-load = at-checked .before .before in
     let s = at-load .before .before .before in
-    let d = loaded-counted (s .args .table .now) (s .args .nodes .now) _ (at-load .load .result) (at-load .load .ensures) _ (at-checked .checked .given .1) (s .pre .all) (s .pre .known) in
-    prepared-listable (s .args .table .now) (s .args .nodes .now) _ (at-load .load .result) (at-load .load .ensures) _ (at-checked .checked .given .1) d (at-mark-front .mark-front .ensures) _ refl
+    prepared-listable (s .args .table .now) (s .args .nodes .now) _ (at-load .load .result) (at-load .load .ensures) _ (at-checked .checked .given .1) (s .pre .nodes) (at-note-all .note-all .ensures) _ (at-nest-of .nest-of .ensures)
     (at-if2 .if2 .left) 0 (taken-slotted taken-none (omega arith))
 
 slotted-requires : tie.Need-slotted-requires
 slotted-requires c κs =
-    let at-mark-front-arg4 = c .before .before .before .before .before .before in
-    let at-checked = at-mark-front-arg4 .before .before .before .before .before in
+    let at-nest-of = c .before .before .before .before in
+    let at-note-all = at-nest-of .before .before in
+    let at-checked = at-note-all .before .before .before .before .before .before in
     let at-load = at-checked .before .before in
     let s = at-load .before .before .before in
-    let d = loaded-counted (s .args .table .now) (s .args .nodes .now) _ (at-load .load .result) (at-load .load .ensures) _ (at-checked .checked .given .1) (s .pre .all) (s .pre .known) in
-    let e = d .count in
-    let f = d .loaded .few in
-    omega arith
+    loaded-passable (s .args .table .now) (s .args .nodes .now) _ (at-load .load .result) (at-load .load .ensures) _ (at-checked .checked .given .1) (s .pre .nodes) .few
 
 returns-5 : tie.Need-returns-5
 returns-5 c =
     let at-if2 = c .before .before .before in
-    let at-mark-front = at-if2 .before .before .before in
-    let at-checked = at-mark-front .before .before .before .before .before .before in
+    let at-nest-of = at-if2 .before .before in
+    let at-note-all = at-nest-of .before .before in
+    let at-checked = at-note-all .before .before .before .before .before .before in
     let at-load = at-checked .before .before in
     let s = at-load .before .before .before in
-    let d = loaded-counted (s .args .table .now) (s .args .nodes .now) _ (at-load .load .result) (at-load .load .ensures) _ (at-checked .checked .given .1) (s .pre .all) (s .pre .known) in
-    prepared-listable (s .args .table .now) (s .args .nodes .now) _ (at-load .load .result) (at-load .load .ensures) _ (at-checked .checked .given .1) d (at-mark-front .mark-front .ensures) _ refl
+    prepared-listable (s .args .table .now) (s .args .nodes .now) _ (at-load .load .result) (at-load .load .ensures) _ (at-checked .checked .given .1) (s .pre .nodes) (at-note-all .note-all .ensures) _ (at-nest-of .nest-of .ensures)
     (at-if2 .if2 .left) _ (c .slotted .ensures)
 
-pub prepare-with-spec : {M : Type 1} → statement M
-prepare-with-spec =
+pub prepare-spec : {M : Type 1} → statement M
+prepare-spec =
     tie.close
     (tie.spec
     load-requires
@@ -103,8 +100,9 @@ prepare-with-spec =
     refusal-requires
     returns
     cast-count
-    mark-front-requires
-    element-copy-out-nest
+    note-all-requires
+    element-copy-out-nest-of
+    nest-of-requires
     returns-2
     returns-3
     returns-4
