@@ -1,12 +1,13 @@
 // From a prepared table to the reactions of a state in a lent area. The area of a caller is small, since most lists are; a list
 // that it cannot hold on the way is made again in one that holds any.
 use crate::Answer;
+use crate::CROWDED;
 use crate::Prepared;
 use crate::State;
 use crate::preparing::prepare;
+use lister::COUNTS;
 use lister::resume;
 use lister::start;
-use lister::COUNTS;
 use table::MOST_NODES;
 ghost use mathlib.Core.Path.{_≡_};
 ghost use Prim.Native.Nat.{_*_, _≤_};
@@ -126,7 +127,7 @@ fn answer_for(n: usize) -> Answer
     if n == area::REFUSED {
         return Answer::Refused(table::NO_KIND);
     }
-    Answer::Refused(15)
+    Answer::Refused(CROWDED)
 }
 
 // The reactions of a state of a prepared table under the assumed signals, left in front of an area.

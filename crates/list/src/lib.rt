@@ -10,8 +10,8 @@ mod preparing;
 mod writing;
 
 pub use finding::reactions;
-pub use preparing::prepare;
 use lister::COUNTS;
+pub use preparing::prepare;
 use table::MOST_NODES;
 ghost use mathlib.Core.Path.{_≡_};
 ghost use Prim.Native.Nat.{_≤_};
@@ -21,6 +21,15 @@ ghost use Rattle.list.specs.Answers.{stateOf, answerOutcome};
 ghost use Rattle.list.specs.Buffers.{Lists, ListsBytes};
 ghost use Rattle.list.specs.inner.Preparing.{stateIn, Rooms};
 ghost use Rattle.list.specs.inner.Finding.{ListsIn, ListsBytesIn};
+
+// "14 over 12 signal statements inside one another"
+const TOO_NESTED: u8 = 14;
+
+// "15 some list needed, the table's own included, has over 64 reactions"
+const CROWDED: u8 = 15;
+
+// "16 one of the three result buffers (O, k, L) has fewer places than reactions"
+const TOO_SHORT: u8 = 16;
 
 // The words of the area that is tried first.
 const SMALL: usize = 272;

@@ -21,13 +21,7 @@ fn at_place(row: &[u16; MOST_NODES], at: usize) -> u16
     if at < MOST_NODES { row[at] } else { 0 }
 }
 
-fn put(
-    ends: &mut [u16; MOST_NODES],
-    notes: &mut [u16; MOST_NODES],
-    at: usize,
-    end: u16,
-    note: u16,
-)
+fn put(ends: &mut [u16; MOST_NODES], notes: &mut [u16; MOST_NODES], at: usize, end: u16, note: u16)
     requires { ⌜ at < 1024 ⌝ }
     ensures { λ _. ⌜ NotesPut at end note (now (ends .entry)) (now (ends .exit)) (now (notes .entry)) (now (notes .exit)) ⌝ }
 {
@@ -51,8 +45,20 @@ fn note_at(
     let first = at + 1;
     match kind_of(node) {
         table::NOTHING => put(ends, notes, at, first as u16, note_of(behind, behind, 0)),
-        table::PAUSE => put(ends, notes, at, first as u16, note_of(behind + 1, behind, 0)),
-        table::GOTOPAUSE..=table::EXIT => put(ends, notes, at, first as u16, note_of(behind, behind, 0)),
+        table::PAUSE => put(
+            ends,
+            notes,
+            at,
+            first as u16,
+            note_of(behind + 1, behind, 0),
+        ),
+        table::GOTOPAUSE..=table::EXIT => put(
+            ends,
+            notes,
+            at,
+            first as u16,
+            note_of(behind, behind, 0),
+        ),
         table::SIGNAL => {
             let end = at_place(ends, first);
             let note = nested_once(at_place(notes, first));
@@ -69,8 +75,20 @@ fn note_at(
             let note = at_place(notes, first);
             put(ends, notes, at, end, note)
         }
-        11..=15 => put(ends, notes, at, first as u16, note_of(0, 0, lister::NO_NEST)),
-        _ => put(ends, notes, at, first as u16, note_of(0, 0, lister::NO_NEST)),
+        11..=15 => put(
+            ends,
+            notes,
+            at,
+            first as u16,
+            note_of(0, 0, lister::NO_NEST),
+        ),
+        _ => put(
+            ends,
+            notes,
+            at,
+            first as u16,
+            note_of(0, 0, lister::NO_NEST),
+        ),
     }
 }
 

@@ -1,6 +1,7 @@
 // A table made ready, once, for listing any of its states under any assumed set: its nodes decoded and checked, what the lister
 // asks of each noted, and the signals chosen that may be unknown.
 use crate::Prepared;
+use crate::TOO_NESTED;
 use crate::noting::note_all;
 use lister::COUNTS;
 use lister::NO_NEST;
@@ -18,6 +19,9 @@ ghost use Rattle.list.specs.inner.Preparing.{Rooms, Prepares};
 
 // The most signals that may be unknown: a condition has a slot for each.
 const MOST_SLOTS: u8 = 12;
+
+// The most signal statements inside one another.
+const MOST_NESTED: u16 = 12;
 
 // Signals are numbers below this.
 const SIGNALS: u8 = 32;
@@ -59,12 +63,6 @@ fn slotted(nodes: &[u16; MOST_NODES], count: usize) -> u64
     }
     set
 }
-
-// "over 12 signal statements inside one another"
-const MOST_NESTED: u16 = 12;
-
-// "14 over 12 signal statements inside one another"
-const TOO_NESTED: u8 = 14;
 
 // A table made ready in the lent rooms, or check's refusals and 14.
 pub fn prepare(

@@ -4,7 +4,6 @@ mod reacting;
 
 pub use noted::COUNTS;
 pub use noted::NO_NEST;
-pub use noted::TOO_NESTED;
 pub use noted::joined;
 pub use noted::nest_of;
 pub use noted::nested_once;

@@ -12,7 +12,7 @@ ghost use Rattle.lister.specs.inner.Notes.{noteOf, fromOf, behindOf, nes
 pub const COUNTS: usize = 64;
 
 // The nesting that stands for all of more than 12.
-pub const TOO_NESTED: u16 = 13;
+const DEEP: u16 = 13;
 
 // The nesting that is noted of a node of a kind that there is not, and of all statements around it.
 pub const NO_NEST: u16 = 15;
@@ -44,7 +44,7 @@ pub fn joined(first: u16, second: u16) -> u16
 pub fn nested_once(note: u16) -> u16
     ensures { λ r. ⌜ r ≡ noteOf (fromOf note) (behindOf note) (nestedOnce (nestOf note)) ⌝ }
 {
-    if note / 4096 < TOO_NESTED {
+    if note / 4096 < DEEP {
         note + 4096
     } else {
         note

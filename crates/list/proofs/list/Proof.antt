@@ -17,13 +17,13 @@ slice-aggregate-list-with c = search needs
 
 list-with-requires : tie.Need-list-with-requires
 list-with-requires c κs = (
-      search needs,
-      record {
-        nodes = record { all = search needs; known = known-zeros 1024 };
-        noted = record { for-ends = search needs; for-notes = search needs };
-        united = search needs;
-      },
-    )
+  search needs,
+  record {
+    nodes = record { all = search needs; known = known-zeros 1024 };
+    noted = record { for-ends = search needs; for-notes = search needs };
+    united = search needs;
+  },
+)
 
 same-length : tie.Need-same-length
 same-length c = search needs

@@ -18,13 +18,13 @@ slice-aggregate-list-bytes-with c = search needs
 
 list-bytes-with-requires : tie.Need-list-bytes-with-requires
 list-bytes-with-requires c κs = (
-      search needs,
-      record {
-        nodes = record { all = search needs; known = known-zeros 1024 };
-        noted = record { for-ends = search needs; for-notes = search needs };
-        united = search needs;
-      },
-    )
+  search needs,
+  record {
+    nodes = record { all = search needs; known = known-zeros 1024 };
+    noted = record { for-ends = search needs; for-notes = search needs };
+    united = search needs;
+  },
+)
 
 same-length : tie.Need-same-length
 same-length c = search needs
