@@ -11,9 +11,9 @@ use lib.ListN.{length, take, drop, getD}
 use lib.Seq.{drop-cons, drop-drop, getD-take, length-take-le}
 use borrow.Author.Tests.{eq-eqb, ne-eqb}
 use Rattle.sets.specs.Set.{has, only, _union_, Apart}
-use Rattle.sets.proofs.Booleans.{or-left, or-right, clash}
 use Rattle.sets.proofs.Members.{has-empty, has-union, has-only, has-only-other, empty-union, union-empty, union-assoc}
 use Rattle.sets.proofs.Counts.{count, count-more, count-width}
+use Rattle.esterel.proofs.Conditions.{in-left, in-right}
 use Rattle.esterel.specs.Statement.{Statement, nothing, pause, gotopause, emit, exit, signal, present, sequence, parallel, loop, try, pauses, Valid}
 use Rattle.table.specs.Reading.{kindOfNode, operandOf}
 use Rattle.table.specs.Writing.{node, nodes}
@@ -39,12 +39,6 @@ module _ (x : ℕ) (xs : List ℕ) where
 neither : (a b x : ℕ) → has a x ≡ false → has b x ≡ false → has (a union b) x ≡ false
 neither a b x f g = has-union a b x ∙ ap₂ _||_ f g
 
-in-first : (a b x : ℕ) → has a x ≡ true → has (a union b) x ≡ true
-in-first a b x h = has-union a b x ∙ or-left (has b x) h
-
-in-second : (a b x : ℕ) → has b x ≡ true → has (a union b) x ≡ true
-in-second a b x h = has-union a b x ∙ or-right (has a x) h
-
 -- ---- at most 63, since the labels are some of 1 to 63
 counted : (xs : List ℕ) → Distinct xs → (pausesIn xs ≤ count 64 (labelsIn xs)) × (has (labelsIn xs) 0 ≡ false)
 unfolding Distinct pausesIn labelsIn
@@ -61,7 +55,7 @@ counted (x ∷ xs) d = go (counted xs (d .1)) (ℕ-discrete (kindOfNode x) 1)
     go (c, z) (yes e) =
         let m = pause-more x xs e in
         let (g, f) = d .0 e in
-        let k = count-more 64 l (only o union l) o (in-second (only o) l) (omega arith) f (in-first (only o) l o (has-only o)) in
+        let k = count-more 64 l (only o union l) o (in-right (only o) l) (omega arith) f (in-left (only o) l o (has-only o)) in
         let n : pausesIn (x ∷ xs) ≤ count 64 (only o union l) = omega (arith, m .0, c, k) in
         (subst (λ (z : ℕ). pausesIn (x ∷ xs) ≤ count 64 z) (sym (m .1)) n, ap (λ (z : ℕ). has z 0) (m .1) ∙ neither (only o) l 0 (has-only-other o 0 (λ q. omega arith)) z)
     go (c, z) (no h) =
@@ -73,7 +67,7 @@ at-most-63 : (xs : List ℕ) → Distinct xs → pausesIn xs ≤ 63
 at-most-63 xs d =
     let (c, z) = counted xs d in
     let l = labelsIn xs in
-    let k = count-more 64 l (only 0 union l) 0 (in-second (only 0) l) (omega arith) z (in-first (only 0) l 0 (has-only 0)) in
+    let k = count-more 64 l (only 0 union l) 0 (in-right (only 0) l) (omega arith) z (in-left (only 0) l 0 (has-only 0)) in
     let w = count-width 64 (only 0 union l) in
     omega (arith, c, k, w)
 
@@ -133,13 +127,13 @@ labels-append (x ∷ xs) ys =
 distinct-append : (xs ys : List ℕ) → Distinct xs → Distinct ys → Apart (labelsIn xs) (labelsIn ys) → Distinct (xs ++ ys)
 unfolding Distinct labelsIn
 distinct-append [] ys d e a = e
-distinct-append (x ∷ xs) ys d e a = (own, distinct-append xs ys (d .1) e (λ y h. a y (in-second (cond (eqb (kindOfNode x) 1) (only (operandOf x)) 0) (labelsIn xs) y h)))
+distinct-append (x ∷ xs) ys d e a = (own, distinct-append xs ys (d .1) e (λ y h. a y (in-right (cond (eqb (kindOfNode x) 1) (only (operandOf x)) 0) (labelsIn xs) y h)))
   where
     own : kindOfNode x ≡ 1 → (1 ≤ operandOf x) × (has (labelsIn (xs ++ ys)) (operandOf x) ≡ false)
     own k =
         let o = operandOf x in
         let (g, f) = d .0 k in
-        let h : has (labelsIn (x ∷ xs)) o ≡ true = ap (λ (z : ℕ). has z o) (pause-more x xs k .1) ∙ in-first (only o) (labelsIn xs) o (has-only o) in
+        let h : has (labelsIn (x ∷ xs)) o ≡ true = ap (λ (z : ℕ). has z o) (pause-more x xs k .1) ∙ in-left (only o) (labelsIn xs) o (has-only o) in
         (g, ap (λ (z : ℕ). has z o) (labels-append xs ys) ∙ neither (labelsIn xs) (labelsIn ys) o f (a o h))
 
 -- nodes whose labels are those of a set, none twice

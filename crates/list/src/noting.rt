@@ -8,9 +8,10 @@ use table::MOST_NODES;
 use table::kind_of;
 use table::operand_of;
 ghost use mathlib.Core.Path.{_≡_};
-ghost use Prim.Native.Nat.{_<_};
+ghost use Prim.Native.Nat.{_+_, _<_};
 ghost use lib.ListN.{length, getD};
 ghost use Rattle.table.specs.Reading.{kindOfNode};
+ghost use Rattle.lister.specs.inner.Notes.{noteWith};
 ghost use Rattle.list.specs.inner.Notes.{NoteRoom, NotesPut, NotesAt, AllNoted, Passable};
 
 // What is noted of a place; past the nodes nothing is.
@@ -29,6 +30,30 @@ fn put(ends: &mut [u16; MOST_NODES], notes: &mut [u16; MOST_NODES], at: usize, e
     notes[at] = note;
 }
 
+// A statement without children, with so many pauses from its node on, and behind it.
+fn put_leaf(
+    ends: &mut [u16; MOST_NODES],
+    notes: &mut [u16; MOST_NODES],
+    at: usize,
+    from: u16,
+    behind: u16,
+)
+    requires { ⌜ (at < 1024) × (from < 64) × (behind < 64) ⌝ }
+    ensures { λ _. ⌜ NotesPut at (at + 1) (noteWith from behind 0) (now (ends .entry)) (now (ends .exit)) (now (notes .entry)) (now (notes .exit)) ⌝ }
+{
+    let end = at + 1;
+    put(ends, notes, at, end as u16, note_of(from, behind, 0));
+}
+
+// A node of a kind that there is not: the nesting tells the root.
+fn put_refused(ends: &mut [u16; MOST_NODES], notes: &mut [u16; MOST_NODES], at: usize)
+    requires { ⌜ at < 1024 ⌝ }
+    ensures { λ _. ⌜ NotesPut at (at + 1) (noteWith 0 0 15) (now (ends .entry)) (now (ends .exit)) (now (notes .entry)) (now (notes .exit)) ⌝ }
+{
+    let end = at + 1;
+    put(ends, notes, at, end as u16, note_of(0, 0, lister::NO_NEST));
+}
+
 // What is noted of the statement at a place, from what is noted of its children; so many pauses stand behind the node. The arms
 // are ranges where kinds do the same, and what is lent are arrays: an arm for each kind becomes a jump through a table of addresses,
 // and a slice goes through memory, either of which takes longer than all the rest.
@@ -44,21 +69,9 @@ fn note_at(
 {
     let first = at + 1;
     match kind_of(node) {
-        table::NOTHING => put(ends, notes, at, first as u16, note_of(behind, behind, 0)),
-        table::PAUSE => put(
-            ends,
-            notes,
-            at,
-            first as u16,
-            note_of(behind + 1, behind, 0),
-        ),
-        table::GOTOPAUSE..=table::EXIT => put(
-            ends,
-            notes,
-            at,
-            first as u16,
-            note_of(behind, behind, 0),
-        ),
+        table::NOTHING => put_leaf(ends, notes, at, behind, behind),
+        table::PAUSE => put_leaf(ends, notes, at, behind + 1, behind),
+        table::GOTOPAUSE..=table::EXIT => put_leaf(ends, notes, at, behind, behind),
         table::SIGNAL => {
             let end = at_place(ends, first);
             let note = nested_once(at_place(notes, first));
@@ -75,20 +88,8 @@ fn note_at(
             let note = at_place(notes, first);
             put(ends, notes, at, end, note)
         }
-        11..=15 => put(
-            ends,
-            notes,
-            at,
-            first as u16,
-            note_of(0, 0, lister::NO_NEST),
-        ),
-        _ => put(
-            ends,
-            notes,
-            at,
-            first as u16,
-            note_of(0, 0, lister::NO_NEST),
-        ),
+        11..=15 => put_refused(ends, notes, at),
+        _ => put_refused(ends, notes, at),
     }
 }
 

@@ -3,24 +3,24 @@ use mathlib.Core.Path.{_≡_}
 use Prim.Native.Nat.{ℕ, _+_, _<_, _≤_}
 use native.Mathlib.Omega.{arith}
 use borrow.Author.Tests.{lt-ltb, le-ltb}
-use Rattle.lister.specs.inner.Notes.{noteOf, fromOf, behindOf, nestOf, nestedOnce}
+use Rattle.lister.specs.inner.Notes.{noteWith, fromOf, behindOf, nestOf, nestedOnce}
 
 module _ (from behind nest : ℕ) (f : from < 64) (b : behind < 64) where
-  pub from-note : fromOf (noteOf from behind nest) ≡ from
-  unfolding noteOf
+  pub from-note : fromOf (noteWith from behind nest) ≡ from
+  unfolding noteWith
   from-note = omega arith
 
-  pub behind-note : behindOf (noteOf from behind nest) ≡ behind
-  unfolding noteOf
+  pub behind-note : behindOf (noteWith from behind nest) ≡ behind
+  unfolding noteWith
   behind-note = omega arith
 
-  pub nest-note : nestOf (noteOf from behind nest) ≡ nest
-  unfolding noteOf
+  pub nest-note : nestOf (noteWith from behind nest) ≡ nest
+  unfolding noteWith
   nest-note = omega arith
 
 -- a note is that of its numbers
-pub note-split : (note : ℕ) → noteOf (fromOf note) (behindOf note) (nestOf note) ≡ note
-unfolding noteOf
+pub note-split : (note : ℕ) → noteWith (fromOf note) (behindOf note) (nestOf note) ≡ note
+unfolding noteWith
 note-split note = omega arith
 
 -- ---- one signal statement more
@@ -33,10 +33,10 @@ unfolding nestedOnce
 once-too-many nest h = rw (le-ltb nest 13 h)
 
 module _ (note : ℕ) where
-  pub note-deeper : nestOf note < 13 → note + 4096 ≡ noteOf (fromOf note) (behindOf note) (nestedOnce (nestOf note))
-  unfolding noteOf
+  pub note-deeper : nestOf note < 13 → note + 4096 ≡ noteWith (fromOf note) (behindOf note) (nestedOnce (nestOf note))
+  unfolding noteWith
   note-deeper h = let e = once-more (nestOf note) h in omega arith
 
-  pub note-kept : 13 ≤ nestOf note → note ≡ noteOf (fromOf note) (behindOf note) (nestedOnce (nestOf note))
-  unfolding noteOf
+  pub note-kept : 13 ≤ nestOf note → note ≡ noteWith (fromOf note) (behindOf note) (nestedOnce (nestOf note))
+  unfolding noteWith
   note-kept h = let e = once-too-many (nestOf note) h in omega arith

@@ -2,7 +2,7 @@
 use mathlib.Core.Path.{refl, sym, ap, ap₂, _∙_}
 use Prim.Native.Nat.{ℕ, max}
 use native.Mathlib.Omega.{arith}
-use Rattle.lister.specs.inner.Notes.{noteOf, fromOf, behindOf, nestOf, nestedOnce}
+use Rattle.lister.specs.inner.Notes.{noteWith, fromOf, behindOf, nestOf, nestedOnce}
 use Rattle.list.proofs.Passing.{noted-nothing, noted-pause, noted-leaf, noted-signal, noted-body, noted-pair, never-noted}
 use borrow.Author.Needs.{needs}
 use Rattle.list.proofs.noting.note_at.Statement.{statement}
@@ -14,31 +14,19 @@ add-first c = search needs
 kind-of-requires : tie.Need-kind-of-requires
 kind-of-requires c κs = search needs
 
-cast-put : tie.Need-cast-put
-cast-put c = search needs
+put-leaf-requires : tie.Need-put-leaf-requires
+put-leaf-requires c κs = search needs
 
-note-of-requires : tie.Need-note-of-requires
-note-of-requires c κs = search needs
+add-put-leaf : tie.Need-add-put-leaf
+add-put-leaf c = search needs
 
-put-requires : tie.Need-put-requires
-put-requires c κs = search needs
-
-cast-put-2 : tie.Need-cast-put-2
-cast-put-2 c = search needs
-
-add-note-of : tie.Need-add-note-of
-add-note-of c = search needs
-
-note-of-requires-2 : tie.Need-note-of-requires-2
-note-of-requires-2 c κs =
+put-leaf-requires-2 : tie.Need-put-leaf-requires-2
+put-leaf-requires-2 c κs =
     let at-match = c .before .before in
     let at-kind-of = at-match .before in
     let s = at-kind-of .before in
     let h = s .pre .2 (sym (at-kind-of .kind-of .ensures) ∙ at-match .match .keys2) in
-    (omega (arith, h), omega (arith, h), omega arith)
-
-put-requires-2 : tie.Need-put-requires-2
-put-requires-2 c κs = search needs
+    (s .pre .0, omega (arith, h), s .pre .1)
 
 at-place-requires : tie.Need-at-place-requires
 at-place-requires c κs = search needs
@@ -49,17 +37,11 @@ at-place-requires-2 c κs = search needs
 nested-once-requires : tie.Need-nested-once-requires
 nested-once-requires c κs = search needs
 
-put-requires-3 : tie.Need-put-requires-3
-put-requires-3 c κs = search needs
+put-requires : tie.Need-put-requires
+put-requires c κs = search needs
 
-cast-put-3 : tie.Need-cast-put-3
-cast-put-3 c = search needs
-
-note-of-requires-3 : tie.Need-note-of-requires-3
-note-of-requires-3 c κs = search needs
-
-put-requires-4 : tie.Need-put-requires-4
-put-requires-4 c κs = search needs
+put-leaf-requires-3 : tie.Need-put-leaf-requires-3
+put-leaf-requires-3 c κs = search needs
 
 at-place-requires-3 : tie.Need-at-place-requires-3
 at-place-requires-3 c κs = search needs
@@ -82,8 +64,8 @@ at-place-requires-6 c κs = search needs
 joined-requires : tie.Need-joined-requires
 joined-requires c κs = search needs
 
-put-requires-5 : tie.Need-put-requires-5
-put-requires-5 c κs = search needs
+put-requires-2 : tie.Need-put-requires-2
+put-requires-2 c κs = search needs
 
 at-place-requires-7 : tie.Need-at-place-requires-7
 at-place-requires-7 c κs = search needs
@@ -91,40 +73,26 @@ at-place-requires-7 c κs = search needs
 at-place-requires-8 : tie.Need-at-place-requires-8
 at-place-requires-8 c κs = search needs
 
-put-requires-6 : tie.Need-put-requires-6
-put-requires-6 c κs = search needs
+put-requires-3 : tie.Need-put-requires-3
+put-requires-3 c κs = search needs
 
-cast-put-4 : tie.Need-cast-put-4
-cast-put-4 c = search needs
+put-refused-requires : tie.Need-put-refused-requires
+put-refused-requires c κs = search needs
 
-note-of-requires-4 : tie.Need-note-of-requires-4
-note-of-requires-4 c κs = search needs
-
-put-requires-7 : tie.Need-put-requires-7
-put-requires-7 c κs = search needs
-
-cast-put-5 : tie.Need-cast-put-5
-cast-put-5 c = search needs
-
-note-of-requires-5 : tie.Need-note-of-requires-5
-note-of-requires-5 c κs = search needs
-
-put-requires-8 : tie.Need-put-requires-8
-put-requires-8 c κs = search needs
+put-refused-requires-2 : tie.Need-put-refused-requires-2
+put-refused-requires-2 c κs = search needs
 
 returns : tie.Need-returns
 returns c =
-    let at-note-of = c .before in
-    let at-match = at-note-of .before .before .before in
+    let at-match = c .before .before .before in
     let at-kind-of = at-match .before in
-    λ n xs came. noted-nothing came (c .put .ensures) refl _ (at-kind-of .kind-of .ensures) (at-match .match .keys1) (at-note-of .note-of .ensures)
+    λ n xs came. noted-nothing came (c .put-leaf .ensures) _ (at-kind-of .kind-of .ensures) (at-match .match .keys1)
 
 returns-2 : tie.Need-returns-2
 returns-2 c =
-    let at-note-of = c .before in
-    let at-match = at-note-of .before .before .before in
+    let at-match = c .before .before .before in
     let at-kind-of = at-match .before in
-    λ n xs came. noted-pause came (c .put2 .ensures) refl _ (at-kind-of .kind-of .ensures) (at-match .match .keys2) (at-note-of .note-of2 .ensures)
+    λ n xs came. noted-pause came (c .put-leaf2 .ensures) _ (at-kind-of .kind-of .ensures) (at-match .match .keys2)
 
 returns-3 : tie.Need-returns-3
 returns-3 c =
@@ -133,18 +101,16 @@ returns-3 c =
     let at-end = at-note .before .before in
     let at-match = at-end .before .before in
     let at-kind-of = at-match .before in
-    λ n xs came. noted-signal came (c .put3 .ensures) (at-end .at-place .ensures) _ (at-kind-of .kind-of .ensures) (at-match .match .keys3)
-    (at-nested-once .nested-once .ensures ∙ ap (λ (x : ℕ). noteOf (fromOf x) (behindOf x) (nestedOnce (nestOf x))) (at-note .at-place2 .ensures))
+    λ n xs came. noted-signal came (c .put .ensures) (at-end .at-place .ensures) _ (at-kind-of .kind-of .ensures) (at-match .match .keys3)
+    (at-nested-once .nested-once .ensures ∙ ap (λ (x : ℕ). noteWith (fromOf x) (behindOf x) (nestedOnce (nestOf x))) (at-note .at-place2 .ensures))
 
 returns-4 : tie.Need-returns-4
 returns-4 c =
-    let at-note-of = c .before in
-    let at-if1 = at-note-of .before .before .before in
+    let at-if1 = c .before .before .before in
     let at-match = at-if1 .before in
     let at-kind-of = at-match .before in
     let m = at-match .match .rest in
-    λ n xs came. noted-leaf came (c .put4 .ensures) refl _ (at-kind-of .kind-of .ensures) (omega (arith, m .0 .0 .1, m .0 .1)) (omega (arith, at-if1 .if1 .taken))
-    (at-note-of .note-of3 .ensures)
+    λ n xs came. noted-leaf came (c .put-leaf3 .ensures) _ (at-kind-of .kind-of .ensures) (omega (arith, m .0 .0 .1, m .0 .1)) (omega (arith, at-if1 .if1 .taken))
 
 returns-5 : tie.Need-returns-5
 returns-5 c =
@@ -157,10 +123,10 @@ returns-5 c =
     let at-match = at-if2 .before .before in
     let at-kind-of = at-match .before in
     let m = at-match .match .rest in
-    λ n xs came. noted-pair came (c .put5 .ensures) (at-second .at-place3 .result) (at-second .at-place3 .ensures) (at-end .at-place4 .ensures) _ (at-kind-of .kind-of .ensures)
+    λ n xs came. noted-pair came (c .put2 .ensures) (at-second .at-place3 .result) (at-second .at-place3 .ensures) (at-end .at-place4 .ensures) _ (at-kind-of .kind-of .ensures)
     (omega (arith, m .1, at-if2 .before .if1 .left)) (omega (arith, at-if2 .if2 .taken))
     (at-joined .joined .ensures
-    ∙ ap₂ (λ (x y : ℕ). noteOf (fromOf x) (behindOf y) (max (nestOf x) (nestOf y))) (at-first-note .at-place5 .ensures) (at-second-note .at-place6 .ensures))
+    ∙ ap₂ (λ (x y : ℕ). noteWith (fromOf x) (behindOf y) (max (nestOf x) (nestOf y))) (at-first-note .at-place5 .ensures) (at-second-note .at-place6 .ensures))
 
 returns-6 : tie.Need-returns-6
 returns-6 c =
@@ -170,18 +136,18 @@ returns-6 c =
     let at-if2 = at-if3 .before in
     let at-match = at-if2 .before .before in
     let at-kind-of = at-match .before in
-    λ n xs came. noted-body came (c .put6 .ensures) (at-end .at-place7 .ensures) _ (at-kind-of .kind-of .ensures)
+    λ n xs came. noted-body came (c .put3 .ensures) (at-end .at-place7 .ensures) _ (at-kind-of .kind-of .ensures)
     (omega (arith, at-if2 .if2 .left)) (omega (arith, at-if3 .if3 .taken)) (at-note .at-place8 .ensures)
 
 returns-7 : tie.Need-returns-7
 returns-7 c =
-    let at-if3 = c .before .before .before .before .before in
+    let at-if3 = c .before .before .before .before in
     let at-kind-of = at-if3 .before .before .before .before in
     λ n xs came. absurd (never-noted came _ (at-kind-of .kind-of .ensures) (omega (arith, at-if3 .if3 .left)))
 
 returns-8 : tie.Need-returns-8
 returns-8 c =
-    let at-if3 = c .before .before .before .before .before in
+    let at-if3 = c .before .before .before .before in
     let at-kind-of = at-if3 .before .before .before .before in
     λ n xs came. absurd (never-noted came _ (at-kind-of .kind-of .ensures) (omega (arith, at-if3 .if3 .left)))
 
@@ -191,20 +157,14 @@ note-at-spec =
     (tie.spec
     add-first
     kind-of-requires
-    cast-put
-    note-of-requires
-    put-requires
-    cast-put-2
-    add-note-of
-    note-of-requires-2
-    put-requires-2
+    put-leaf-requires
+    add-put-leaf
+    put-leaf-requires-2
     at-place-requires
     at-place-requires-2
     nested-once-requires
-    put-requires-3
-    cast-put-3
-    note-of-requires-3
-    put-requires-4
+    put-requires
+    put-leaf-requires-3
     at-place-requires-3
     cast-at-place
     at-place-requires-4
@@ -212,16 +172,12 @@ note-at-spec =
     cast-at-place-2
     at-place-requires-6
     joined-requires
-    put-requires-5
+    put-requires-2
     at-place-requires-7
     at-place-requires-8
-    put-requires-6
-    cast-put-4
-    note-of-requires-4
-    put-requires-7
-    cast-put-5
-    note-of-requires-5
-    put-requires-8
+    put-requires-3
+    put-refused-requires
+    put-refused-requires-2
     returns
     returns-2
     returns-3
