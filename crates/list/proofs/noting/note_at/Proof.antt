@@ -26,7 +26,7 @@ put-leaf-requires-2 c κs =
     let at-kind-of = at-match .before in
     let s = at-kind-of .before in
     let h = s .pre .2 (sym (at-kind-of .kind-of .ensures) ∙ at-match .match .keys2) in
-    (s .pre .0, omega (arith, h), s .pre .1)
+    (s .pre .0, omega (arith, h), omega (arith, s .pre .1))
 
 at-place-requires : tie.Need-at-place-requires
 at-place-requires c κs = search needs
