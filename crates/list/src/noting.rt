@@ -1,5 +1,6 @@
 // One pass over decoded nodes, from the last to the first, that notes of each statement where it ends, its pauses, and the nesting
 // of its signals.
+use esterel::Label;
 use lister::COUNTS;
 use lister::joined;
 use lister::nested_once;
@@ -113,7 +114,8 @@ pub fn note_all(
         let node = nodes[at];
         note_at(node, ends, notes, at, behind);
         if kind_of(node) == table::PAUSE {
-            labels = sets::with(labels, operand_of(node));
+            let label = Label(operand_of(node));
+            labels = sets::with(labels, label.0);
             behind += 1;
             unions[behind as usize] = labels;
         }
