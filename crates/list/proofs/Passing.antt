@@ -16,7 +16,7 @@ use Rattle.esterel.specs.Statement.{Statement, nothing, pause, gotopause, emit,
 use Rattle.esterel.specs.Listing.{nesting}
 use Rattle.table.specs.Reading.{kindOfNode, operandOf}
 use Rattle.table.specs.inner.Places.{Placed, placed, placeOne, placeTwo}
-use Rattle.lister.specs.inner.Notes.{noteWith, fromOf, behindOf, nestOf, labelsNoted, nestedOnce, placeAt, partAt, ReadWhole, EndsFrom, PausesFrom}
+use Rattle.lister.specs.inner.Notes.{packedNote, fromOf, behindOf, nestOf, labelsNoted, nestedOnce, placeAt, partAt, ReadWhole, EndsFrom, PausesFrom}
 use Rattle.lister.proofs.Nodes.{One, Two, before-end, not-known, is-nothing, is-pause, is-gotopause, is-emit, is-exit, is-signal, is-present, is-sequence, is-parallel, is-loop, is-try}
 use Rattle.lister.proofs.Fields.{from-note, behind-note, nest-note, note-split, once-more, once-too-many}
 use Rattle.list.specs.inner.Notes.{pausesIn, labelsIn, onward, pausesFrom, labelsFrom, noteFor, NoteRoom, NotedFrom, Splits, SplitFrom, NotesFrom, UnionsFrom, AllNoted, Passable, CameTo, NotesPut}
@@ -103,27 +103,27 @@ module _ {n : ℕ} {xs : List ℕ} {at node behind : ℕ} {ends notes : List ℕ
   as-placed {end} {note} e r = subst (λ (q : Placed). Right n xs at q end note) (sym e) r
 
   -- ---- no child
-  right-none : (p : Statement) → (kind ≡ 1 → ⊥) → pauses p ≡ 0 → nesting p ≡ 0 → Right n xs at (placed p (at + 1)) (at + 1) (noteWith behind behind 0)
+  right-none : (p : Statement) → (kind ≡ 1 → ⊥) → pauses p ≡ 0 → nesting p ≡ 0 → Right n xs at (placed p (at + 1)) (at + 1) (packedNote behind behind 0)
   right-none p k e f =
       let h = here-none (c .over) (c .inside) k in
       let b = c .counted in
       record {
         is-end = refl;
-        is-note = ap₂ (λ (x y : ℕ). noteWith x y 0) (b ∙ sym (h .0)) b ∙ ap (λ (z : ℕ). noteWith (pausesFrom n xs at) (pausesFrom n xs (at + 1)) (min 13 z)) (sym f);
+        is-note = ap₂ (λ (x y : ℕ). packedNote x y 0) (b ∙ sym (h .0)) b ∙ ap (λ (z : ℕ). packedNote (pausesFrom n xs at) (pausesFrom n xs (at + 1)) (min 13 z)) (sym f);
         splits = record {
           both = h .1 ∙ sym (empty-union (labelsFrom n xs (at + 1))) ∙ ap (λ (z : ℕ). z union labelsFrom n xs (at + 1)) (sym e);
           apart = λ x q. clash (sym (ap (λ (z : ℕ). has z x) e) ∙ q) (has-empty x);
         };
       }
 
-  right-pause : kind ≡ 1 → Right n xs at (placed (pause own) (at + 1)) (at + 1) (noteWith (behind + 1) behind 0)
+  right-pause : kind ≡ 1 → Right n xs at (placed (pause own) (at + 1)) (at + 1) (packedNote (behind + 1) behind 0)
   unfolding pauses nesting
   right-pause k =
       let h = here-pause (c .over) (c .inside) k in
       let b = c .counted in
       record {
         is-end = refl;
-        is-note = ap₂ (λ (x y : ℕ). noteWith x y 0) (ap (λ (z : ℕ). z + 1) b ∙ sym (h .0)) b;
+        is-note = ap₂ (λ (x y : ℕ). packedNote x y 0) (ap (λ (z : ℕ). z + 1) b ∙ sym (h .0)) b;
         splits = record {
           both = h .1;
           apart = λ x q. ap (has (labelsFrom n xs (at + 1))) (sym (has-only-equal own x q)) ∙ here-fresh (c .over) (c .inside) k;
@@ -159,7 +159,7 @@ module _ {n : ℕ} {xs : List ℕ} {at node behind : ℕ} {ends notes : List ℕ
   -- ---- one child
   right-one : (f : Statement → Statement) (g : ℕ → ℕ) → One n xs at f → (kind ≡ 1 → ⊥) → ((p : Statement) → pauses (f p) ≡ pauses p)
       → ((p : Statement) → min 13 (nesting (f p)) ≡ g (min 13 (nesting p)))
-      → let x = getD notes (at + 1) 0 in Right n xs at (placeOne f (placeAt xs (at + 1))) (getD ends (at + 1) 0) (noteWith (fromOf x) (behindOf x) (g (nestOf x)))
+      → let x = getD notes (at + 1) 0 in Right n xs at (placeOne f (placeAt xs (at + 1))) (getD ends (at + 1) 0) (packedNote (fromOf x) (behindOf x) (g (nestOf x)))
   right-one f g o k paused nested =
       let h = here-none (c .over) (c .inside) k in
       let l : at + 1 ≤ at + 1 = omega arith in
@@ -169,8 +169,8 @@ module _ {n : ℕ} {xs : List ℕ} {at node behind : ℕ} {ends notes : List ℕ
       let s = split-there l w in
       record {
         is-end = end-there l w;
-        is-note = ap₂ (λ (x y : ℕ). noteWith x y (g (nestOf (getD notes (at + 1) 0)))) (from-there l w ∙ sym (h .0)) (behind-there l w)
-            ∙ ap (noteWith (pausesFrom n xs at) (pausesFrom n xs next)) (ap g (nest-there l w) ∙ sym (nested p));
+        is-note = ap₂ (λ (x y : ℕ). packedNote x y (g (nestOf (getD notes (at + 1) 0)))) (from-there l w ∙ sym (h .0)) (behind-there l w)
+            ∙ ap (packedNote (pausesFrom n xs at) (pausesFrom n xs next)) (ap g (nest-there l w) ∙ sym (nested p));
         splits = record {
           both = h .1 ∙ s .both ∙ ap (λ (z : ℕ). z union labelsFrom n xs next) (sym (paused p));
           apart = subst (λ (z : ℕ). Apart z (labelsFrom n xs next)) (sym (paused p)) (s .apart);
@@ -181,7 +181,7 @@ module _ {n : ℕ} {xs : List ℕ} {at node behind : ℕ} {ends notes : List ℕ
   right-two : (f : Statement → Statement → Statement) → Two n xs at f → (kind ≡ 1 → ⊥) → ((p q : Statement) → pauses (f p q) ≡ pauses p union pauses q)
       → ((p q : Statement) → nesting (f p q) ≡ max (nesting p) (nesting q)) → (second : ℕ) → second ≡ getD ends (at + 1) 0
       → let x = getD notes (at + 1) 0 in let y = getD notes second 0 in
-      Right n xs at (placeTwo f (placeAt xs) (placeAt xs (at + 1))) (getD ends second 0) (noteWith (fromOf x) (behindOf y) (max (nestOf x) (nestOf y)))
+      Right n xs at (placeTwo f (placeAt xs) (placeAt xs (at + 1))) (getD ends second 0) (packedNote (fromOf x) (behindOf y) (max (nestOf x) (nestOf y)))
   right-two f o k paused nested second e =
       let h = here-none (c .over) (c .inside) k in
       let l : at + 1 ≤ at + 1 = omega arith in
@@ -189,13 +189,13 @@ module _ {n : ℕ} {xs : List ℕ} {at node behind : ℕ} {ends notes : List ℕ
       let w : ReadWhole n xs second = subst (ReadWhole n xs) (sym i) (o .second) in
       let u = o .first .full in
       let m : at + 1 ≤ second = omega (arith, i, u) in
-      subst (λ (z : ℕ). Right n xs at (placeTwo f (λ j. placeAt xs z) (placeAt xs (at + 1))) (getD ends second 0) (noteWith (fromOf (getD notes (at + 1) 0)) (behindOf (getD notes second 0)) (max (nestOf (getD notes (at + 1) 0)) (nestOf (getD notes second 0)))))
+      subst (λ (z : ℕ). Right n xs at (placeTwo f (λ j. placeAt xs z) (placeAt xs (at + 1))) (getD ends second 0) (packedNote (fromOf (getD notes (at + 1) 0)) (behindOf (getD notes second 0)) (max (nestOf (getD notes (at + 1) 0)) (nestOf (getD notes second 0)))))
       i (parts h l m (o .first) w i)
     where
       parts : (pausesFrom n xs at ≡ pausesFrom n xs (at + 1)) × (labelsFrom n xs at ≡ labelsFrom n xs (at + 1)) → (l : at + 1 ≤ at + 1) (m : at + 1 ≤ second)
           → ReadWhole n xs (at + 1) → ReadWhole n xs second → second ≡ placeAt xs (at + 1) .next
           → Right n xs at (placed (f (partAt xs (at + 1)) (partAt xs second)) (placeAt xs second .next)) (getD ends second 0)
-          (noteWith (fromOf (getD notes (at + 1) 0)) (behindOf (getD notes second 0)) (max (nestOf (getD notes (at + 1) 0)) (nestOf (getD notes second 0))))
+          (packedNote (fromOf (getD notes (at + 1) 0)) (behindOf (getD notes second 0)) (max (nestOf (getD notes (at + 1) 0)) (nestOf (getD notes second 0))))
       parts h l m v w i =
           let p = partAt xs (at + 1) in
           let q = partAt xs second in
@@ -210,8 +210,8 @@ module _ {n : ℕ} {xs : List ℕ} {at node behind : ℕ} {ends notes : List ℕ
           let apart : Apart (pauses p) (pauses q union labelsFrom n xs next) = subst (Apart (pauses p)) (ap (labelsFrom n xs) (sym i) ∙ t .both) (s .apart) in
           record {
             is-end = end-there m w;
-            is-note = ap₂ (λ (a b : ℕ). noteWith a b (max (nestOf (getD notes (at + 1) 0)) (nestOf (getD notes second 0)))) (from-there l v ∙ sym (h .0)) (behind-there m w)
-                ∙ ap (noteWith (pausesFrom n xs at) (pausesFrom n xs next)) deep;
+            is-note = ap₂ (λ (a b : ℕ). packedNote a b (max (nestOf (getD notes (at + 1) 0)) (nestOf (getD notes second 0)))) (from-there l v ∙ sym (h .0)) (behind-there m w)
+                ∙ ap (packedNote (pausesFrom n xs at) (pausesFrom n xs next)) deep;
             splits = record {
               both = h .1 ∙ both ∙ ap (λ (j : ℕ). pauses p union j) (t .both) ∙ sym (union-assoc (pauses p) (pauses q) (labelsFrom n xs next))
                   ∙ ap (λ (j : ℕ). j union labelsFrom n xs next) (sym (paused p q));
@@ -226,18 +226,18 @@ module _ {n : ℕ} {xs : List ℕ} {at node behind : ℕ} {ends notes : List ℕ
 
   -- ---- without children: of these only a pause counts
   module _ {ends′ notes′ : List ℕ} where
-    noted-none : (p : Statement) → (kind ≡ 1 → ⊥) → NotesPut at (at + 1) (noteWith behind behind 0) ends ends′ notes notes′ → pauses p ≡ 0 → nesting p ≡ 0
+    noted-none : (p : Statement) → (kind ≡ 1 → ⊥) → NotesPut at (at + 1) (packedNote behind behind 0) ends ends′ notes notes′ → pauses p ≡ 0 → nesting p ≡ 0
         → (ReadWhole n xs at → placeAt xs at ≡ placed p (at + 1)) → NotesFrom at n xs ends′ notes′
     noted-none p k w g h q = written w (λ v. as-placed (q v) (right-none p k g h))
 
-    pub noted-nothing : NotesPut at (at + 1) (noteWith behind behind 0) ends ends′ notes notes′ → (k : ℕ) → k ≡ kindOfNode node → k ≡ 0 → NotesFrom at n xs ends′ notes′
+    pub noted-nothing : NotesPut at (at + 1) (packedNote behind behind 0) ends ends′ notes notes′ → (k : ℕ) → k ≡ kindOfNode node → k ≡ 0 → NotesFrom at n xs ends′ notes′
     unfolding pauses nesting
     noted-nothing w k i j = let z = sym (kind-is k i) ∙ j in noted-none nothing (λ q. omega (arith, z, q)) w refl refl (λ v. is-nothing v z)
 
-    pub noted-pause : NotesPut at (at + 1) (noteWith (behind + 1) behind 0) ends ends′ notes notes′ → (k : ℕ) → k ≡ kindOfNode node → k ≡ 1 → NotesFrom at n xs ends′ notes′
+    pub noted-pause : NotesPut at (at + 1) (packedNote (behind + 1) behind 0) ends ends′ notes notes′ → (k : ℕ) → k ≡ kindOfNode node → k ≡ 1 → NotesFrom at n xs ends′ notes′
     noted-pause w k i j = let z = sym (kind-is k i) ∙ j in written w (λ v. as-placed (is-pause v z) (right-pause z))
 
-    pub noted-leaf : NotesPut at (at + 1) (noteWith behind behind 0) ends ends′ notes notes′ → (k : ℕ) → k ≡ kindOfNode node → 2 ≤ k → k ≤ 4 → NotesFrom at n xs ends′ notes′
+    pub noted-leaf : NotesPut at (at + 1) (packedNote behind behind 0) ends ends′ notes notes′ → (k : ℕ) → k ≡ kindOfNode node → 2 ≤ k → k ≤ 4 → NotesFrom at n xs ends′ notes′
     unfolding pauses nesting
     noted-leaf w k i l h = go (ℕ-discrete kind 2) (ℕ-discrete kind 3)
       where
@@ -258,11 +258,11 @@ module _ {n : ℕ} {xs : List ℕ} {at node behind : ℕ} {ends notes : List ℕ
     module _ (e : end ≡ getD ends (at + 1) 0) where
       noted-one : (f : Statement → Statement) (g : ℕ → ℕ) → (kind ≡ 1 → ⊥) → (ReadWhole n xs at → One n xs at f) → ((p : Statement) → pauses (f p) ≡ pauses p)
           → ((p : Statement) → min 13 (nesting (f p)) ≡ g (min 13 (nesting p)))
-          → let x = getD notes (at + 1) 0 in note ≡ noteWith (fromOf x) (behindOf x) (g (nestOf x)) → NotesFrom at n xs ends′ notes′
+          → let x = getD notes (at + 1) 0 in note ≡ packedNote (fromOf x) (behindOf x) (g (nestOf x)) → NotesFrom at n xs ends′ notes′
       noted-one f g k o paused nested h = noted-as e h (λ v. o v .is) (λ v. right-one f g (o v) k paused nested)
 
       pub noted-signal : (k : ℕ) → k ≡ kindOfNode node → k ≡ 5
-          → let x = getD notes (at + 1) 0 in note ≡ noteWith (fromOf x) (behindOf x) (nestedOnce (nestOf x)) → NotesFrom at n xs ends′ notes′
+          → let x = getD notes (at + 1) 0 in note ≡ packedNote (fromOf x) (behindOf x) (nestedOnce (nestOf x)) → NotesFrom at n xs ends′ notes′
       unfolding pauses nesting
       noted-signal k i j f =
           let z = sym (kind-is k i) ∙ j in
@@ -275,7 +275,7 @@ module _ {n : ℕ} {xs : List ℕ} {at node behind : ℕ} {ends notes : List ℕ
           other : kind ≡ 1 → ⊥
           other q = omega (arith, kind-is k i, q, l)
 
-          same : let x = getD notes (at + 1) 0 in note ≡ noteWith (fromOf x) (behindOf x) (nestOf x)
+          same : let x = getD notes (at + 1) 0 in note ≡ packedNote (fromOf x) (behindOf x) (nestOf x)
           same = f ∙ sym (note-split (getD notes (at + 1) 0))
 
           go : Dec (kind ≡ 9) → NotesFrom at n xs ends′ notes′
@@ -285,7 +285,7 @@ module _ {n : ℕ} {xs : List ℕ} {at node behind : ℕ} {ends notes : List ℕ
     -- with two children
     module _ (second : ℕ) (d : second ≡ getD ends (at + 1) 0) (e : end ≡ getD ends second 0) where
       abbrev Joined : Type 0
-      Joined = let x = getD notes (at + 1) 0 in let y = getD notes second 0 in note ≡ noteWith (fromOf x) (behindOf y) (max (nestOf x) (nestOf y))
+      Joined = let x = getD notes (at + 1) 0 in let y = getD notes second 0 in note ≡ packedNote (fromOf x) (behindOf y) (max (nestOf x) (nestOf y))
 
       noted-two : (f : Statement → Statement → Statement) → (kind ≡ 1 → ⊥) → (ReadWhole n xs at → Two n xs at f) → ((p q : Statement) → pauses (f p q) ≡ pauses p union pauses q)
           → ((p q : Statement) → nesting (f p q) ≡ max (nesting p) (nesting q)) → Joined → NotesFrom at n xs ends′ notes′

@@ -12,7 +12,7 @@ ghost use mathlib.Core.Path.{_≡_};
 ghost use Prim.Native.Nat.{_+_, _<_};
 ghost use lib.ListN.{length, getD};
 ghost use Rattle.table.specs.Reading.{kindOfNode};
-ghost use Rattle.lister.specs.inner.Notes.{noteWith};
+ghost use Rattle.lister.specs.inner.Notes.{packedNote};
 ghost use Rattle.list.specs.inner.Notes.{NoteRoom, NotesPut, NotesAt, AllNoted, Passable};
 
 // What is noted of a place; past the nodes nothing is.
@@ -40,7 +40,7 @@ fn put_leaf(
     behind: u16,
 )
     requires { ⌜ (at < 1024) × (from < 64) × (behind < 64) ⌝ }
-    ensures { λ _. ⌜ NotesPut at (at + 1) (noteWith from behind 0) (now (ends .entry)) (now (ends .exit)) (now (notes .entry)) (now (notes .exit)) ⌝ }
+    ensures { λ _. ⌜ NotesPut at (at + 1) (packedNote from behind 0) (now (ends .entry)) (now (ends .exit)) (now (notes .entry)) (now (notes .exit)) ⌝ }
 {
     let end = at + 1;
     put(ends, notes, at, end as u16, note_of(from, behind, 0));
@@ -49,7 +49,7 @@ fn put_leaf(
 // A node of a kind that there is not: the nesting tells the root.
 fn put_refused(ends: &mut [u16; MOST_NODES], notes: &mut [u16; MOST_NODES], at: usize)
     requires { ⌜ at < 1024 ⌝ }
-    ensures { λ _. ⌜ NotesPut at (at + 1) (noteWith 0 0 15) (now (ends .entry)) (now (ends .exit)) (now (notes .entry)) (now (notes .exit)) ⌝ }
+    ensures { λ _. ⌜ NotesPut at (at + 1) (packedNote 0 0 15) (now (ends .entry)) (now (ends .exit)) (now (notes .entry)) (now (notes .exit)) ⌝ }
 {
     let end = at + 1;
     put(ends, notes, at, end as u16, note_of(0, 0, lister::NO_NEST));

@@ -1,14 +1,14 @@
 // What is noted of a statement, in two bytes. The pauses of a table are counted from its last node: the note says how many stand
 // from the first node of the statement on, how many of these stand behind its end, and how many of its signal statements stand
-// inside one another. `unions` has the labels of the last pauses, so many as the place says, and so the labels of a statement are
-// those up to its first node without those behind its end. No other file knows the layout: 6 bits, 6 bits, 4 bits.
+// inside one another. `unions` has at each place the labels of the last pauses, so many as the place says, and the labels of a
+// statement are those from its first node on without those behind its end. No other file knows the layout: 6, 6 and 4 bits.
 use table::MOST_NODES;
 ghost use mathlib.Core.Path.{_≡_};
 ghost use Prim.Native.Nat.{_<_, max};
 ghost use lib.ListN.{getD};
-ghost use Rattle.lister.specs.inner.Notes.{noteWith, fromOf, behindOf, nestOf, nestedOnce, labelsNoted};
+ghost use Rattle.lister.specs.inner.Notes.{packedNote, fromOf, behindOf, nestOf, nestedOnce, labelsNoted};
 
-// There are labels 1 to 63, and two pauses never share one.
+// Counts of pauses are below this: there are labels 1 to 63, and two pauses never share one.
 pub const COUNTS: usize = 64;
 
 // The nesting that stands for all of more than 12.
@@ -20,7 +20,7 @@ pub const NO_NEST: u16 = 15;
 // The note of a statement.
 pub fn note_of(from: u16, behind: u16, nest: u16) -> u16
     requires { ⌜ (from < 64) × (behind < 64) × (nest < 16) ⌝ }
-    ensures { λ r. ⌜ r ≡ noteWith from behind nest ⌝ }
+    ensures { λ r. ⌜ r ≡ packedNote from behind nest ⌝ }
 {
     from + behind * 64 + nest * 4096
 }
@@ -34,7 +34,7 @@ pub fn nest_of(note: u16) -> u16
 
 // The note of a statement of two parts that stand one behind the other.
 pub fn joined(first: u16, second: u16) -> u16
-    ensures { λ r. ⌜ r ≡ noteWith (fromOf first) (behindOf second) (max (nestOf first) (nestOf second)) ⌝ }
+    ensures { λ r. ⌜ r ≡ packedNote (fromOf first) (behindOf second) (max (nestOf first) (nestOf second)) ⌝ }
 {
     let nest = esterel::larger(first / 4096, second / 4096);
     first % 64 + second / 64 % 64 * 64 + nest * 4096
@@ -42,7 +42,7 @@ pub fn joined(first: u16, second: u16) -> u16
 
 // The note with one signal statement more around.
 pub fn nested_once(note: u16) -> u16
-    ensures { λ r. ⌜ r ≡ noteWith (fromOf note) (behindOf note) (nestedOnce (nestOf note)) ⌝ }
+    ensures { λ r. ⌜ r ≡ packedNote (fromOf note) (behindOf note) (nestedOnce (nestOf note)) ⌝ }
 {
     if note / 4096 < DEEP {
         note + 4096

@@ -11,7 +11,7 @@ use Rattle.esterel.specs.Statement.{pauses, size}
 use Rattle.esterel.specs.Listing.{nesting}
 use Rattle.table.specs.Reading.{kindOfNode, operandOf}
 use Rattle.table.specs.inner.Places.{Placed, statementOf, Known, Loaded}
-use Rattle.lister.specs.inner.Notes.{noteWith, placeAt, ReadWhole, EndsFrom}
+use Rattle.lister.specs.inner.Notes.{packedNote, placeAt, ReadWhole, EndsFrom}
 
 -- ---- The pauses among nodes
 
@@ -48,12 +48,13 @@ pub record NoteRoom (ends notes : List ℕ) : Type 0 where
 
 -- the note of a statement, with the place after it: 13 stands for all nestings above 12
 abbrev pub noteFor : ℕ → List ℕ → ℕ → Placed → ℕ
-noteFor n xs at p = noteWith (pausesFrom n xs at) (pausesFrom n xs (p .next)) (min 13 (nesting (p .statement)))
+noteFor n xs at p = packedNote (pausesFrom n xs at) (pausesFrom n xs (p .next)) (min 13 (nesting (p .statement)))
 
 unfoldable pub NotedFrom : ℕ → ℕ → List ℕ → List ℕ → Type 0
 NotedFrom i n xs notes = (at : ℕ) → i ≤ at → ReadWhole n xs at → getD notes at 0 ≡ noteFor n xs at (placeAt xs at)
 
--- the labels from its first node on are those of its pauses and, apart from them, those behind its end
+-- the labels from its first node on are those of its pauses and, apart from them, those behind its end: a fact of the nodes
+-- alone, which is shown place by place along with the notes
 pub record Splits (n : ℕ) (xs : List ℕ) (at : ℕ) (p : Placed) : Type 0 where
   pub both : labelsFrom n xs at ≡ pauses (p .statement) union labelsFrom n xs (p .next)
   pub apart : Apart (pauses (p .statement)) (labelsFrom n xs (p .next))

@@ -25,8 +25,8 @@ pub record ReadWhole (n : ℕ) (xs : List ℕ) (at : ℕ) : Type 0 where
   pub within : placeAt xs at .next ≤ n
 
 -- a note: how many pauses of a table stand from the first node of a statement on, how many behind its end, and its nesting
-unfoldable pub noteWith : ℕ → ℕ → ℕ → ℕ
-noteWith from behind nest = from + behind * 64 + nest * 4096
+unfoldable pub packedNote : ℕ → ℕ → ℕ → ℕ
+packedNote from behind nest = from + behind * 64 + nest * 4096
 
 abbrev pub fromOf : ℕ → ℕ
 fromOf note = note % 64

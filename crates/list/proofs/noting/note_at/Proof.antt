@@ -1,8 +1,8 @@
 -- By the kind: the lemma of what is noted of a statement with so many children.
-use mathlib.Core.Path.{refl, sym, ap, ap₂, _∙_}
+use mathlib.Core.Path.{sym, ap, ap₂, _∙_}
 use Prim.Native.Nat.{ℕ, max}
 use native.Mathlib.Omega.{arith}
-use Rattle.lister.specs.inner.Notes.{noteWith, fromOf, behindOf, nestOf, nestedOnce}
+use Rattle.lister.specs.inner.Notes.{packedNote, fromOf, behindOf, nestOf, nestedOnce}
 use Rattle.list.proofs.Passing.{noted-nothing, noted-pause, noted-leaf, noted-signal, noted-body, noted-pair, never-noted}
 use borrow.Author.Needs.{needs}
 use Rattle.list.proofs.noting.note_at.Statement.{statement}
@@ -102,7 +102,7 @@ returns-3 c =
     let at-match = at-end .before .before in
     let at-kind-of = at-match .before in
     λ n xs came. noted-signal came (c .put .ensures) (at-end .at-place .ensures) _ (at-kind-of .kind-of .ensures) (at-match .match .keys3)
-    (at-nested-once .nested-once .ensures ∙ ap (λ (x : ℕ). noteWith (fromOf x) (behindOf x) (nestedOnce (nestOf x))) (at-note .at-place2 .ensures))
+    (at-nested-once .nested-once .ensures ∙ ap (λ (x : ℕ). packedNote (fromOf x) (behindOf x) (nestedOnce (nestOf x))) (at-note .at-place2 .ensures))
 
 returns-4 : tie.Need-returns-4
 returns-4 c =
@@ -126,7 +126,7 @@ returns-5 c =
     λ n xs came. noted-pair came (c .put2 .ensures) (at-second .at-place3 .result) (at-second .at-place3 .ensures) (at-end .at-place4 .ensures) _ (at-kind-of .kind-of .ensures)
     (omega (arith, m .1, at-if2 .before .if1 .left)) (omega (arith, at-if2 .if2 .taken))
     (at-joined .joined .ensures
-    ∙ ap₂ (λ (x y : ℕ). noteWith (fromOf x) (behindOf y) (max (nestOf x) (nestOf y))) (at-first-note .at-place5 .ensures) (at-second-note .at-place6 .ensures))
+    ∙ ap₂ (λ (x y : ℕ). packedNote (fromOf x) (behindOf y) (max (nestOf x) (nestOf y))) (at-first-note .at-place5 .ensures) (at-second-note .at-place6 .ensures))
 
 returns-6 : tie.Need-returns-6
 returns-6 c =

@@ -1,7 +1,6 @@
 -- The larger of the two nestings.
 use mathlib.Core.Path.{ap}
-use Prim.Native.Nat.{ℕ}
-use Rattle.lister.specs.inner.Notes.{noteWith, fromOf, behindOf}
+use Rattle.lister.specs.inner.Notes.{packedNote, fromOf, behindOf}
 use borrow.Author.Needs.{needs}
 use Rattle.lister.proofs.noted.joined.Statement.{statement}
 use Rattle.lister.proofs.noted.joined.Tie as tie
@@ -22,10 +21,10 @@ add-result-2 : tie.Need-add-result-2
 add-result-2 c = search needs
 
 returns : tie.Need-returns
-unfolding noteWith
+unfolding packedNote
 returns c =
     let s = c .before in
-    ap (noteWith (fromOf (s .args .first)) (behindOf (s .args .second))) (c .larger .ensures)
+    ap (packedNote (fromOf (s .args .first)) (behindOf (s .args .second))) (c .larger .ensures)
 
 pub joined-spec : {M : Type 1} → statement M
 joined-spec =

@@ -1,6 +1,6 @@
 -- The three numbers side by side.
 use mathlib.Core.Path.{refl}
-use Rattle.lister.specs.inner.Notes.{noteWith}
+use Rattle.lister.specs.inner.Notes.{packedNote}
 use borrow.Author.Needs.{needs}
 use Rattle.lister.proofs.noted.note_of.Statement.{statement}
 use Rattle.lister.proofs.noted.note_of.Tie as tie
@@ -18,7 +18,7 @@ add-result-2 : tie.Need-add-result-2
 add-result-2 c = search needs
 
 returns : tie.Need-returns
-unfolding noteWith
+unfolding packedNote
 returns c = refl
 
 pub note-of-spec : {M : Type 1} → statement M
