@@ -56,8 +56,8 @@ fn put_refused(ends: &mut [u16; MOST_NODES], notes: &mut [u16; MOST_NODES], at: 
 }
 
 // What is noted of the statement at a place, from what is noted of its children; so many pauses stand behind the node. The arms
-// are ranges where kinds do the same, and what is lent are arrays: an arm for each kind becomes a jump through a table of addresses,
-// and a slice goes through memory, either of which takes longer than all the rest.
+// are ranges where kinds do the same, and what is lent are arrays, for speed: an arm for each kind becomes a jump through a table of
+// addresses, which is predicted badly, and a slice goes through memory.
 fn note_at(
     node: u16,
     ends: &mut [u16; MOST_NODES],
