@@ -1,4 +1,5 @@
-pub mod Marks
+pub mod Pauses
+pub mod Passing
 pub mod Slotting
 pub mod Findings
 pub mod Limits

@@ -2,13 +2,14 @@
 -- check and the nesting of its statement.
 use mathlib.Core.Path.{_≡_, refl, sym, ap, _∙_, subst}
 use mathlib.Core.Bool.{Bool, true, false, cond}
-use mathlib.Core.List.{List, [], _∷_}
+use mathlib.Core.List.{List, [], _∷_, _++_}
 use mathlib.Core.Option.{Option, none, some, Option·none-ne-some, Option·some-injective}
 use Prim.Native.Nat.{ℕ, zero, suc, _+_, _≤_, _<_, min}
 use native.Mathlib.Omega.{arith}
 use native.Mathlib.Decide.{decLe}
 use lib.Dec.{eqb}
-use lib.ListN.{length, getD}
+use lib.ListN.{length, take, drop, getD}
+use lib.Seq.{take-at}
 use borrow.Author.Tests.{lt-ltb, le-ltb}
 use Rattle.sets.proofs.Booleans.{eqb-differ}
 use Rattle.esterel.specs.Statement.{Statement}
@@ -20,21 +21,26 @@ use Rattle.esterel.proofs.CappedRows.{capped-rows-exact}
 use Rattle.table.specs.declared.Checked.{Checked}
 use Rattle.table.specs.declared.Checked.the-variants as checked
 use Rattle.table.specs.Outcomes.{values, numberOf}
-use Rattle.table.specs.Reading.{Table, tableOf, checkOf, checkedOutcome}
+use Rattle.table.specs.Reading.{Table, tableOf, nodesOf, checkOf, checkedOutcome}
 use Rattle.table.specs.Reading as table
-use Rattle.table.specs.inner.Loading.{loadedOf}
-use Rattle.table.specs.inner.Places.{statementOf, Known}
+use Rattle.table.specs.inner.Loading.{loadedAfter, loadedOf}
+use Rattle.table.specs.Writing.{nodes}
+use Rattle.table.specs.inner.Places.{statementOf}
+use Rattle.table.proofs.Cutting.{length-nodesOf}
+use Rattle.table.proofs.Accepted.{Holds, accepted}
 use Rattle.table.proofs.Loading.{load-refuses, load-holds, load-statement, load-size, load-loaded}
 use Rattle.area.specs.inner.Area.{rows, Made}
-use Rattle.lister.specs.inner.Notes.{ReadWhole, Resumable}
+use Rattle.lister.specs.inner.Notes.{nestOf, ReadWhole, Resumable}
 use Rattle.lister.specs.inner.Slots.{Slotted}
 use Rattle.list.specs.declared.Answer.{Answer}
 use Rattle.list.specs.declared.Answer.the-variants as answer
 use Rattle.list.specs.declared.Prepared.the-variants as prepared
 use Rattle.list.specs.Answers.{Listing, refused, listed, listFor, listingOutcome, answerOutcome}
-use Rattle.list.specs.inner.Notes.{NestsFrom, NotesFrom, Counted}
-use Rattle.list.specs.inner.Preparing.{listAt, limited, Listable, Prepares}
+use Rattle.list.specs.inner.Notes.{Distinct, AllNoted, Passable, Counted}
+use Rattle.list.specs.inner.Preparing.{listAt, limited, Listable, NodeRoom, Prepares}
 use Rattle.list.specs.inner.Finding.{reactionsHeld, answerFor, Finds}
+use Rattle.list.proofs.Pauses.{distinct-nodes}
+use Rattle.list.proofs.Passing.{right-pauses, root-nest}
 
 never : (w : ℕ) (ts : List Reaction) → refused w ≡ listed ts → ⊥
 never w ts e = let z : _≡_ {A = ℕ} 0 1 = cc in omega arith
@@ -128,35 +134,38 @@ module _ (M : ℕ) (p : Statement) (x : State) (E : ℕ) {a b : List ℕ} {n : �
           let e = is-over (omega arith) in
           subst (λ (z : Answer). Finds (limited p x E) z a b) (answer-over n (omega arith) (λ f. omega arith)) (finds-crowded (omega arith))
 
--- ---- marked nodes can be listed
-module _ {n : ℕ} {xs ends nests labels : List ℕ} (s : Counted xs n) (c : NotesFrom 0 n xs ends nests labels) where
+-- ---- noted nodes can be listed
+module _ {n : ℕ} {xs : List ℕ} (s : Counted xs n) where
+  passable : Passable n xs
+  passable = let e = s .count in let f = s .loaded .few in record { all = s .loaded .all; few = omega arith; known = s .loaded .known; distinct = s .distinct }
+
   root-whole : ReadWhole n xs 0
   root-whole =
       let e = s .count in
       let x = s .loaded .next-is in
       record { shallow = s .loaded .shallow; full = omega arith; within = omega arith }
 
-  marked-resumable : Resumable xs ends labels 0
-  marked-resumable =
-      let e = s .count in
-      record {
-        ready = record {
-          count = n;
-          few = omega (arith, s .loaded .few);
-          right = c .right-ends;
-          narrow = λ i h. s .loaded .narrow i (omega arith);
-          known = s .loaded .known;
-          whole = root-whole;
-        };
-        right-labels = c .right-labels;
-      }
+  module _ {ends notes unions : List ℕ} (c : AllNoted 0 n xs ends notes unions) where
+    noted-resumable : Resumable xs ends notes unions 0
+    noted-resumable =
+        let e = s .count in
+        record {
+          ready = record {
+            count = n;
+            few = passable .few;
+            right = c .noted .right-ends;
+            narrow = λ i h. s .loaded .narrow i (omega arith);
+            known = s .loaded .known;
+            whole = root-whole;
+          };
+          right-labels = right-pauses passable c;
+        }
 
-  pub marked-listable : (M : ℕ) → Slotted M 0 → Listable xs ends labels M
-  marked-listable M h = record { noted = marked-resumable; slots = h }
+    noted-listable : (M : ℕ) → Slotted M 0 → Listable xs ends notes unions M
+    noted-listable M h = record { noted = noted-resumable; slots = h }
 
-  pub marked-nest : (nest : ℕ) → nest ≡ getD nests 0 0 → nest ≡ min 13 (nesting (statementOf xs))
-  unfolding NestsFrom
-  marked-nest nest e = e ∙ c .right-nests 0 (omega arith) root-whole
+    noted-nest : (nest : ℕ) → nest ≡ nestOf (getD notes 0 0) → nest ≡ min 13 (nesting (statementOf xs))
+    noted-nest nest e = e ∙ root-nest passable (c .noted) root-whole
 
 -- ---- refusal 14
 module _ (p : Statement) (nest : ℕ) (e : nest ≡ min 13 (nesting p)) where
@@ -169,8 +178,8 @@ module _ (p : Statement) (nest : ℕ) (e : nest ≡ min 13 (nesting p)) where
   for-limited h x E = ap (λ (z : Bool). cond z (refused 14) (cond (crowded p x E) (refused 15) (listed (listing p x E)))) (le-ltb 12 (nesting p) (omega arith))
 
 -- ---- a table, by the answer of check
-module _ {T : Table} {xs ends labels : List ℕ} where
-  prepares-refused : (w : ℕ) → ((x : State) (E : ℕ) → listAt T x E ≡ refused w) → Prepares T (prepared.Refused w) xs ends labels
+module _ {T : Table} {xs ends notes unions : List ℕ} where
+  prepares-refused : (w : ℕ) → ((x : State) (E : ℕ) → listAt T x E ≡ refused w) → Prepares T (prepared.Refused w) xs ends notes unions
   prepares-refused w f = record {
     refuses = λ u e x E. f x E ∙ ap refused (same u e);
     accepts = λ M e. absurd (other M e);
@@ -182,10 +191,10 @@ module _ {T : Table} {xs ends labels : List ℕ} where
       other : (M : ℕ) → prepared.Refused w ≡ prepared.Accepted M → ⊥
       other M e = let z : _≡_ {A = ℕ} 0 1 = cc in omega arith
 
-  prepares-accepted : (M : ℕ) → Listable xs ends labels M → ((x : State) (E : ℕ) → listAt T x E ≡ limited (statementOf xs) x E) → Prepares T (prepared.Accepted M) xs ends labels
+  prepares-accepted : (M : ℕ) → Listable xs ends notes unions M → ((x : State) (E : ℕ) → listAt T x E ≡ limited (statementOf xs) x E) → Prepares T (prepared.Accepted M) xs ends notes unions
   prepares-accepted M l f = record {
     refuses = λ w e. absurd (other w e);
-    accepts = λ K e. (subst (Listable xs ends labels) (same K e) l, f);
+    accepts = λ K e. (subst (Listable xs ends notes unions) (same K e) l, f);
   }
     where
       same : (K : ℕ) → prepared.Accepted M ≡ prepared.Accepted K → M ≡ K
@@ -195,14 +204,21 @@ module _ {T : Table} {xs ends labels : List ℕ} where
       other w e = let z : _≡_ {A = ℕ} 0 1 = cc in omega arith
 
 module _ (t old new : List ℕ) (c : Checked) (h : (checkedOutcome c ≡ checkOf t) × (new ≡ loadedOf t old)) where
-  pub prepared-checked : (w why : ℕ) {xs ends labels : List ℕ} → c ≡ checked.Refused w → why ≡ numberOf (checkedOutcome c)
-      → Prepares (tableOf t) (prepared.Refused why) xs ends labels
+  pub prepared-checked : (w why : ℕ) {xs ends notes unions : List ℕ} → c ≡ checked.Refused w → why ≡ numberOf (checkedOutcome c)
+      → Prepares (tableOf t) (prepared.Refused why) xs ends notes unions
   unfolding listAt
   prepared-checked w why e f = prepares-refused why (λ x E. ap (λ (T : Table). listAt T x E) (load-refuses t old new c h w why e f))
 
   module _ (n : ℕ) (e : c ≡ checked.Accepted n) where
-    pub loaded-counted : length old ≡ 1024 → Known old → Counted new n
-    loaded-counted l k = record { loaded = load-loaded t old new c h n e l k; count = load-size t old new c h n e }
+    -- the first nodes are those of a valid statement
+    loaded-distinct : Distinct (take n new)
+    unfolding loadedOf loadedAfter
+    loaded-distinct =
+        let p = load-holds t old new c h n e .0 in
+        let k : Holds t n p = accepted t n p (load-holds t old new c h n e .1) in
+        let f : new ≡ nodesOf t n ++ drop n old = h .1 ∙ rw (k .counted) in
+        let g : take n new ≡ nodes p = ap (take n) f ∙ take-at (nodesOf t n) (drop n old) n (length-nodesOf t n) ∙ k .nodes-are in
+        subst Distinct (sym g) (distinct-nodes p (k .valid))
 
     at-loaded : (x : State) (E : ℕ) → listAt (tableOf t) x E ≡ listFor (statementOf new) x E
     unfolding listAt
@@ -210,10 +226,22 @@ module _ (t old new : List ℕ) (c : Checked) (h : (checkedOutcome c ≡ checkOf
         ap (λ (T : Table). listAt T x E) (load-holds t old new c h n e .1)
         ∙ sym (ap (λ (p : Statement). listFor p x E) (load-statement t old new c h n e))
 
-    module _ {ends nests labels : List ℕ} (s : Counted new n) (d : NotesFrom 0 n new ends nests labels) (nest : ℕ) (g : nest ≡ getD nests 0 0) where
-      pub prepared-deep : 12 < nest → Prepares (tableOf t) (prepared.Refused 14) new ends labels
-      prepared-deep k = prepares-refused 14 (λ x E. at-loaded x E ∙ for-deep (statementOf new) nest (marked-nest s d nest g) k x E)
+    module _ (r : NodeRoom old) where
+      loaded-counted : Counted new n
+      loaded-counted = record { loaded = load-loaded t old new c h n e (r .all) (r .known); count = load-size t old new c h n e; distinct = loaded-distinct }
 
-      pub prepared-listable : nest ≤ 12 → (M : ℕ) → Slotted M 0 → Prepares (tableOf t) (prepared.Accepted M) new ends labels
-      prepared-listable k M q =
-          prepares-accepted M (marked-listable s d M q) (λ x E. at-loaded x E ∙ for-limited (statementOf new) nest (marked-nest s d nest g) k x E)
+      pub loaded-passable : Passable n new
+      loaded-passable = passable loaded-counted
+
+      module _ {ends notes unions : List ℕ} (d : AllNoted 0 n new ends notes unions) (nest : ℕ) (g : nest ≡ nestOf (getD notes 0 0)) where
+        nest-is : nest ≡ min 13 (nesting (statementOf new))
+        nest-is = noted-nest loaded-counted d nest g
+
+        pub never-unknown : nest ≡ 15 → ⊥
+        never-unknown k = omega (arith, nest-is, k)
+
+        pub prepared-deep : 12 < nest → Prepares (tableOf t) (prepared.Refused 14) new ends notes unions
+        prepared-deep k = prepares-refused 14 (λ x E. at-loaded x E ∙ for-deep (statementOf new) nest nest-is k x E)
+
+        pub prepared-listable : nest ≤ 12 → (M : ℕ) → Slotted M 0 → Prepares (tableOf t) (prepared.Accepted M) new ends notes unions
+        prepared-listable k M q = prepares-accepted M (noted-listable loaded-counted d M q) (λ x E. at-loaded x E ∙ for-limited (statementOf new) nest nest-is k x E)

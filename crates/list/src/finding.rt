@@ -1,9 +1,11 @@
 // From a prepared table to the reactions of a state in a lent area. The area of a caller is small, since most lists are; a list
 // that it cannot hold on the way is made again in one that holds any.
 use crate::Answer;
+use crate::CROWDED;
 use crate::Prepared;
 use crate::State;
 use crate::preparing::prepare;
+use lister::COUNTS;
 use lister::resume;
 use lister::start;
 use table::MOST_NODES;
@@ -14,7 +16,7 @@ ghost use Rattle.table.specs.Reading.{tableOf};
 ghost use Rattle.table.specs.inner.Places.{statementOf};
 ghost use Rattle.esterel.specs.inner.CappedRows.{cappedRows};
 ghost use Rattle.area.specs.inner.Area.{Made};
-ghost use Rattle.list.specs.inner.Preparing.{stateIn, Listable, limited, listAt, NodeRoom};
+ghost use Rattle.list.specs.inner.Preparing.{stateIn, Listable, limited, listAt, Rooms};
 ghost use Rattle.list.specs.inner.Finding.{Copied, answerFor, Finds};
 
 // The words of an area that is never too small.
@@ -24,13 +26,14 @@ const LARGE: usize = 7810;
 fn rows_in(
     nodes: &[u16; MOST_NODES],
     ends: &[u16; MOST_NODES],
-    pauses: &[u64; MOST_NODES],
+    notes: &[u16; MOST_NODES],
+    unions: &[u64; COUNTS],
     slotted: u64,
     assumed: u64,
     state: State,
     area: &mut [u64],
 ) -> usize
-    requires { ⌜ Listable (now nodes) (now ends) (now pauses) slotted ⌝ }
+    requires { ⌜ Listable (now nodes) (now ends) (now notes) (now unions) slotted ⌝ }
     ensures { λ r. ⌜ Made (now (area .entry)) (now (area .exit)) 0 7810 (cappedRows slotted (statementOf (now (nodes .entry))) (stateIn state) assumed 0) r ⌝ }
 {
     match state {
@@ -38,7 +41,8 @@ fn rows_in(
         State::Resumed(labels) => resume(
             nodes,
             ends,
-            pauses,
+            notes,
+            unions,
             0,
             assumed,
             0,
@@ -70,17 +74,18 @@ fn copy(large: &[u64], n: usize, area: &mut [u64])
 fn rows_through(
     nodes: &[u16; MOST_NODES],
     ends: &[u16; MOST_NODES],
-    pauses: &[u64; MOST_NODES],
+    notes: &[u16; MOST_NODES],
+    unions: &[u64; COUNTS],
     slotted: u64,
     assumed: u64,
     state: State,
     area: &mut [u64],
     large: &mut [u64],
 ) -> usize
-    requires { ⌜ (128 ≤ length (now area)) × (7810 ≤ length (now large)) × Listable (now nodes) (now ends) (now pauses) slotted ⌝ }
+    requires { ⌜ (128 ≤ length (now area)) × (7810 ≤ length (now large)) × Listable (now nodes) (now ends) (now notes) (now unions) slotted ⌝ }
     ensures { λ r. ⌜ Made (now (area .entry)) (now (area .exit)) 0 0 (cappedRows slotted (statementOf (now (nodes .entry))) (stateIn state) assumed 0) r ⌝ }
 {
-    let n = rows_in(nodes, ends, pauses, slotted, assumed, state, large);
+    let n = rows_in(nodes, ends, notes, unions, slotted, assumed, state, large);
     copy(large, n, area);
     n
 }
@@ -88,20 +93,22 @@ fn rows_through(
 fn rows_large(
     nodes: &[u16; MOST_NODES],
     ends: &[u16; MOST_NODES],
-    pauses: &[u64; MOST_NODES],
+    notes: &[u16; MOST_NODES],
+    unions: &[u64; COUNTS],
     slotted: u64,
     assumed: u64,
     state: State,
     area: &mut [u64],
 ) -> usize
-    requires { ⌜ (128 ≤ length (now area)) × Listable (now nodes) (now ends) (now pauses) slotted ⌝ }
+    requires { ⌜ (128 ≤ length (now area)) × Listable (now nodes) (now ends) (now notes) (now unions) slotted ⌝ }
     ensures { λ r. ⌜ Made (now (area .entry)) (now (area .exit)) 0 0 (cappedRows slotted (statementOf (now (nodes .entry))) (stateIn state) assumed 0) r ⌝ }
 {
     let mut large = [0u64; LARGE];
     rows_through(
         nodes,
         ends,
-        pauses,
+        notes,
+        unions,
         slotted,
         assumed,
         state,
@@ -120,28 +127,29 @@ fn answer_for(n: usize) -> Answer
     if n == area::REFUSED {
         return Answer::Refused(table::NO_KIND);
     }
-    Answer::Refused(15)
+    Answer::Refused(CROWDED)
 }
 
 // The reactions of a state of a prepared table under the assumed signals, left in front of an area.
 pub fn reactions(
     nodes: &[u16; MOST_NODES],
     ends: &[u16; MOST_NODES],
-    pauses: &[u64; MOST_NODES],
+    notes: &[u16; MOST_NODES],
+    unions: &[u64; COUNTS],
     slotted: u64,
     assumed: u32,
     state: State,
     area: &mut [u64],
 ) -> Answer
-    requires { ⌜ (128 ≤ length (now area)) × Listable (now nodes) (now ends) (now pauses) slotted ⌝ }
+    requires { ⌜ (128 ≤ length (now area)) × Listable (now nodes) (now ends) (now notes) (now unions) slotted ⌝ }
     ensures { λ r. ⌜ Finds (limited (statementOf (now (nodes .entry))) (stateIn state) assumed) r (now (area .entry)) (now (area .exit)) ⌝ }
 {
     let present = assumed as u64;
-    let n = rows_in(nodes, ends, pauses, slotted, present, state, area);
+    let n = rows_in(nodes, ends, notes, unions, slotted, present, state, area);
     if n <= area::OVER {
         return answer_for(n);
     }
-    answer_for(rows_large(nodes, ends, pauses, slotted, present, state, area))
+    answer_for(rows_large(nodes, ends, notes, unions, slotted, present, state, area))
 }
 
 // The reactions of a state of a table, left in front of an area, with room lent for what is prepared.
@@ -151,19 +159,21 @@ pub fn find(
     state: State,
     nodes: &mut [u16; MOST_NODES],
     ends: &mut [u16; MOST_NODES],
-    pauses: &mut [u64; MOST_NODES],
+    notes: &mut [u16; MOST_NODES],
+    unions: &mut [u64; COUNTS],
     area: &mut [u64],
 ) -> Answer
-    requires { ⌜ (128 ≤ length (now area)) × NodeRoom (now nodes) ⌝ }
+    requires { ⌜ (128 ≤ length (now area)) × Rooms (now nodes) (now ends) (now notes) (now unions) ⌝ }
     ensures { λ r. ⌜ Finds (listAt (tableOf (now (table .entry))) (stateIn state) assumed) r (now (area .entry)) (now (area .exit)) ⌝ }
 {
-    let prepared = prepare(table, nodes, ends, pauses);
+    let prepared = prepare(table, nodes, ends, notes, unions);
     match prepared {
         Prepared::Refused(why) => Answer::Refused(why),
         Prepared::Accepted(slotted) => reactions(
             nodes,
             ends,
-            pauses,
+            notes,
+            unions,
             slotted,
             assumed,
             state,

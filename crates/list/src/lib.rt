@@ -5,11 +5,12 @@
 // statement is usually listed once, with the signal unknown, and again with it present and with it absent only where that gives
 // up; a part that cannot react in the state is not visited.
 mod finding;
-mod marking;
+mod noting;
 mod preparing;
 mod writing;
 
 pub use finding::reactions;
+use lister::COUNTS;
 pub use preparing::prepare;
 use table::MOST_NODES;
 ghost use mathlib.Core.Path.{_≡_};
@@ -18,8 +19,17 @@ ghost use lib.ListN.{length};
 ghost use Rattle.table.specs.Outcomes.{numberOf};
 ghost use Rattle.list.specs.Answers.{stateOf, answerOutcome};
 ghost use Rattle.list.specs.Buffers.{Lists, ListsBytes};
-ghost use Rattle.list.specs.inner.Preparing.{stateIn, NodeRoom};
+ghost use Rattle.list.specs.inner.Preparing.{stateIn, Rooms};
 ghost use Rattle.list.specs.inner.Finding.{ListsIn, ListsBytesIn};
+
+// "14 over 12 signal statements inside one another"
+const TOO_NESTED: u8 = 14;
+
+// "15 some list needed, the table's own included, has over 64 reactions"
+const CROWDED: u8 = 15;
+
+// "16 one of the three result buffers (O, k, L) has fewer places than reactions"
+const TOO_SHORT: u8 = 16;
 
 // The words of the area that is tried first.
 const SMALL: usize = 272;
@@ -73,13 +83,14 @@ fn list_with(
     l: &mut [u64],
     nodes: &mut [u16; MOST_NODES],
     ends: &mut [u16; MOST_NODES],
-    pauses: &mut [u64; MOST_NODES],
+    notes: &mut [u16; MOST_NODES],
+    unions: &mut [u64; COUNTS],
     area: &mut [u64],
 ) -> Answer
-    requires { ⌜ (128 ≤ length (now area)) × NodeRoom (now nodes) ⌝ }
+    requires { ⌜ (128 ≤ length (now area)) × Rooms (now nodes) (now ends) (now notes) (now unions) ⌝ }
     ensures { λ r. ⌜ ListsIn (now (table .entry)) assumed (stateIn state) r (now (o .entry)) (now (o .exit)) (now (k .entry)) (now (k .exit)) (now (l .entry)) (now (l .exit)) ⌝ }
 {
-    let answer = finding::find(table, assumed, state, nodes, ends, pauses, area);
+    let answer = finding::find(table, assumed, state, nodes, ends, notes, unions, area);
     let Answer::Listed(n) = answer else {
         return answer;
     };
@@ -100,7 +111,8 @@ pub fn list(
 {
     let mut nodes = [0u16; MOST_NODES];
     let mut ends = [0u16; MOST_NODES];
-    let mut pauses = [0u64; MOST_NODES];
+    let mut notes = [0u16; MOST_NODES];
+    let mut unions = [0u64; COUNTS];
     let mut area = [0u64; SMALL];
     let state = state_of(mark, labels);
     list_with(
@@ -112,7 +124,8 @@ pub fn list(
         l,
         &mut nodes,
         &mut ends,
-        &mut pauses,
+        &mut notes,
+        &mut unions,
         &mut area,
     )
 }
@@ -126,13 +139,14 @@ fn list_bytes_with(
     l: &mut [u8],
     nodes: &mut [u16; MOST_NODES],
     ends: &mut [u16; MOST_NODES],
-    pauses: &mut [u64; MOST_NODES],
+    notes: &mut [u16; MOST_NODES],
+    unions: &mut [u64; COUNTS],
     area: &mut [u64],
 ) -> Answer
-    requires { ⌜ (128 ≤ length (now area)) × NodeRoom (now nodes) ⌝ }
+    requires { ⌜ (128 ≤ length (now area)) × Rooms (now nodes) (now ends) (now notes) (now unions) ⌝ }
     ensures { λ r. ⌜ ListsBytesIn (now (table .entry)) assumed (stateIn state) r (now (o .entry)) (now (o .exit)) (now (k .entry)) (now (k .exit)) (now (l .entry)) (now (l .exit)) ⌝ }
 {
-    let answer = finding::find(table, assumed, state, nodes, ends, pauses, area);
+    let answer = finding::find(table, assumed, state, nodes, ends, notes, unions, area);
     let Answer::Listed(n) = answer else {
         return answer;
     };
@@ -153,7 +167,8 @@ pub fn list_bytes(
 {
     let mut nodes = [0u16; MOST_NODES];
     let mut ends = [0u16; MOST_NODES];
-    let mut pauses = [0u64; MOST_NODES];
+    let mut notes = [0u16; MOST_NODES];
+    let mut unions = [0u64; COUNTS];
     let mut area = [0u64; SMALL];
     let state = state_of(mark, labels);
     list_bytes_with(
@@ -165,7 +180,8 @@ pub fn list_bytes(
         l,
         &mut nodes,
         &mut ends,
-        &mut pauses,
+        &mut notes,
+        &mut unions,
         &mut area,
     )
 }

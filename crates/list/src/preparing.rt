@@ -1,7 +1,11 @@
 // A table made ready, once, for listing any of its states under any assumed set: its nodes decoded and checked, what the lister
 // asks of each noted, and the signals chosen that may be unknown.
 use crate::Prepared;
-use crate::marking;
+use crate::TOO_NESTED;
+use crate::noting::note_all;
+use lister::COUNTS;
+use lister::NO_NEST;
+use lister::nest_of;
 use table::Checked;
 use table::MOST_NODES;
 use table::kind_of;
@@ -11,10 +15,13 @@ ghost use mathlib.Core.Bool.{true};
 ghost use Prim.Native.Nat.{_≤_, _<_};
 ghost use Rattle.table.specs.Reading.{tableOf, operandOf};
 ghost use Rattle.lister.specs.inner.Slots.{Slotted};
-ghost use Rattle.list.specs.inner.Preparing.{NodeRoom, Prepares};
+ghost use Rattle.list.specs.inner.Preparing.{Rooms, Prepares};
 
 // The most signals that may be unknown: a condition has a slot for each.
 const MOST_SLOTS: u8 = 12;
+
+// The most signal statements inside one another.
+const MOST_NESTED: u16 = 12;
 
 // Signals are numbers below this.
 const SIGNALS: u8 = 32;
@@ -57,46 +64,32 @@ fn slotted(nodes: &[u16; MOST_NODES], count: usize) -> u64
     set
 }
 
-// A table made ready, with room lent for the nestings, of which only the root's is asked.
-fn prepare_with(
+// A table made ready in the lent rooms, or check's refusals and 14.
+pub fn prepare(
     table: &[u8],
     nodes: &mut [u16; MOST_NODES],
     ends: &mut [u16; MOST_NODES],
-    nests: &mut [u8; MOST_NODES],
-    pauses: &mut [u64; MOST_NODES],
+    notes: &mut [u16; MOST_NODES],
+    unions: &mut [u64; COUNTS],
 ) -> Prepared
-    requires { ⌜ NodeRoom (now nodes) ⌝ }
-    ensures { λ r. ⌜ Prepares (tableOf (now (table .entry))) r (now (nodes .exit)) (now (ends .exit)) (now (pauses .exit)) ⌝ }
+    requires { ⌜ Rooms (now nodes) (now ends) (now notes) (now unions) ⌝ }
+    ensures { λ r. ⌜ Prepares (tableOf (now (table .entry))) r (now (nodes .exit)) (now (ends .exit)) (now (notes .exit)) (now (unions .exit)) ⌝ }
 {
     let checked = table::load(table, nodes);
     let Checked::Accepted(n) = checked else {
         return Prepared::Refused(table::refusal(checked));
     };
     let count = n as usize;
-    marking::mark_front(nodes, count, ends, nests, pauses);
-    let nest = nests[0];
-    if nest == marking::REFUSED {
+    note_all(nodes, count, ends, notes, unions);
+    let nest = nest_of(notes[0]);
+    if nest == NO_NEST {
         return Prepared::Refused(table::NO_KIND);
     }
-    if marking::MOST_NESTED < nest {
-        return Prepared::Refused(14);
+    if MOST_NESTED < nest {
+        return Prepared::Refused(TOO_NESTED);
     }
     if nest == 0 {
         return Prepared::Accepted(0);
     }
     Prepared::Accepted(slotted(nodes, count))
-}
-
-// A table made ready in the lent rooms, or check's refusals and 14.
-pub fn prepare(
-    table: &[u8],
-    nodes: &mut [u16; MOST_NODES],
-    ends: &mut [u16; MOST_NODES],
-    pauses: &mut [u64; MOST_NODES],
-) -> Prepared
-    requires { ⌜ NodeRoom (now nodes) ⌝ }
-    ensures { λ r. ⌜ Prepares (tableOf (now (table .entry))) r (now (nodes .exit)) (now (ends .exit)) (now (pauses .exit)) ⌝ }
-{
-    let mut nests = [0u8; MOST_NODES];
-    prepare_with(table, nodes, ends, &mut nests, pauses)
 }

@@ -1,5 +1,6 @@
 // Reactions from an area into result buffers, as numbers and as bytes.
 use crate::Answer;
+use crate::TOO_SHORT;
 ghost use mathlib.Core.Path.{_≡_};
 ghost use mathlib.Core.List.{map};
 ghost use Prim.Native.Nat.{_*_, _≤_};
@@ -48,13 +49,13 @@ pub fn deliver(area: &[u64], n: u32, o: &mut [u32], k: &mut [u8], l: &mut [u64])
 {
     let count = n as usize;
     if o.len() < count {
-        return Answer::Refused(16);
+        return Answer::Refused(TOO_SHORT);
     }
     if k.len() < count {
-        return Answer::Refused(16);
+        return Answer::Refused(TOO_SHORT);
     }
     if l.len() < count {
-        return Answer::Refused(16);
+        return Answer::Refused(TOO_SHORT);
     }
     fill_signals(area, count, o);
     fill_codes(area, count, k);
@@ -91,13 +92,13 @@ pub fn deliver_bytes(area: &[u64], n: u32, o: &mut [u8], k: &mut [u8], l: &mut [
 {
     let count = n as usize;
     if o.len() / 4 < count {
-        return Answer::Refused(16);
+        return Answer::Refused(TOO_SHORT);
     }
     if k.len() < count {
-        return Answer::Refused(16);
+        return Answer::Refused(TOO_SHORT);
     }
     if l.len() / 8 < count {
-        return Answer::Refused(16);
+        return Answer::Refused(TOO_SHORT);
     }
     spell_signals(area, count, o);
     fill_codes(area, count, k);

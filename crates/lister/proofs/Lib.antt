@@ -1,4 +1,5 @@
 pub mod Nodes
+pub mod Fields
 pub mod Naming
 pub mod Clashes
 pub mod Slots

@@ -29,7 +29,7 @@ use Rattle.area.specs.inner.Rules.{product}
 use Rattle.area.specs.inner.Area.{Made, Beside}
 use Rattle.area.proofs.Made.{made-as, made-need, made-empty}
 use Rattle.area.proofs.Rules.{product-parallel}
-use Rattle.lister.specs.inner.Notes.{placeAt, partAt, PausesFrom, Startable, Resumable}
+use Rattle.lister.specs.inner.Notes.{placeAt, partAt, labelsNoted, PausesFrom, Startable, Resumable}
 use Rattle.lister.specs.inner.Joins.{roomFor, Above, MadeOne, FollowedAgain}
 use Rattle.lister.proofs.Nodes.{is-nothing, is-pause, is-gotopause, is-emit, is-exit, is-signal, is-loop}
 use Rattle.lister.proofs.Joins.{beside-top, joined, followed}
@@ -55,20 +55,20 @@ meets-one X l h = go (has X l) refl
     go false e = absurd (h (ext (X intersect only l) 0 (λ x. none-there e x (ℕ-discrete l x))))
 
 -- ---- the children can be resumed too
-pub resumable-at : {xs ends labels : List ℕ} {at i : ℕ} (r : Resumable xs ends labels at) → Child (r .ready .count) xs at i → Resumable xs ends labels i
+pub resumable-at : {xs ends notes unions : List ℕ} {at i : ℕ} (r : Resumable xs ends notes unions at) → Child (r .ready .count) xs at i → Resumable xs ends notes unions i
 resumable-at r k = record { ready = ready-at (r .ready) k; right-labels = r .right-labels }
 
 -- the labels that are noted of a statement meet the state, or not
-module _ {xs ends labels : List ℕ} {at : ℕ} (r : Resumable xs ends labels at) (X : ℕ) where
-  noted-pauses : getD labels at 0 ≡ pauses (partAt xs at)
+module _ {xs ends notes unions : List ℕ} {at : ℕ} (r : Resumable xs ends notes unions at) (X : ℕ) {own : ℕ} (e : own ≡ labelsNoted unions (getD notes at 0)) where
+  noted-pauses : own ≡ pauses (partAt xs at)
   unfolding PausesFrom
-  noted-pauses = r .right-labels at (omega arith) (r .ready .whole)
+  noted-pauses = e ∙ r .right-labels at (omega arith) (r .ready .whole)
 
-  pub meets-not : bitAnd X (getD labels at 0) ≡ 0 → X intersect pauses (partAt xs at) ≡ 0
+  pub meets-not : bitAnd X own ≡ 0 → X intersect pauses (partAt xs at) ≡ 0
   unfolding _intersect_
   meets-not h = ap (bitAnd X) (sym noted-pauses) ∙ h
 
-  pub meets : (bitAnd X (getD labels at 0) ≡ 0 → ⊥) → X intersect pauses (partAt xs at) ≡ 0 → ⊥
+  pub meets : (bitAnd X own ≡ 0 → ⊥) → X intersect pauses (partAt xs at) ≡ 0 → ⊥
   unfolding _intersect_
   meets h z = h (ap (bitAnd X) noted-pauses ∙ z)
 

@@ -4,6 +4,8 @@
 // of `slotted`, whose members have the slots of conditions. With no signal unknown the rows are reactions, and OVER is refusal
 // 15; else OVER is giving up, and says only that the signal statement around is listed in another way. The nodes and what is noted
 // of them are arrays, since a slice goes through memory at every call; only the first nodes are those of the table.
+use crate::noted::COUNTS;
+use crate::noted::pauses_of;
 use area::Change;
 use area::Pairing;
 use esterel::Code;
@@ -370,7 +372,8 @@ fn follow_again(
 pub fn resume(
     nodes: &[u16; MOST_NODES],
     ends: &[u16; MOST_NODES],
-    pauses: &[u64; MOST_NODES],
+    notes: &[u16; MOST_NODES],
+    unions: &[u64; COUNTS],
     at: usize,
     assumed: u64,
     unknown: u64,
@@ -379,13 +382,13 @@ pub fn resume(
     area: &mut [u64],
     base: usize,
 ) -> usize
-    requires { ⌜ (base ≤ length (now area)) × Resumable (now nodes) (now ends) (now pauses) at × Slotted slotted unknown ⌝ }
+    requires { ⌜ (base ≤ length (now area)) × Resumable (now nodes) (now ends) (now notes) (now unions) at × Slotted slotted unknown ⌝ }
     ensures { λ r. ⌜ MadeRows slotted (partAt (now (nodes .entry)) at) (resumed labels) assumed unknown (now (area .entry)) (now (area .exit)) base r ⌝ }
 {
     if base == area.len() {
         return area::CRAMPED;
     }
-    if labels & pauses[at] == 0 {
+    if labels & pauses_of(notes, unions, at) == 0 {
         return 0;
     }
     let node = nodes[at];
@@ -402,7 +405,8 @@ pub fn resume(
                 return resume(
                     nodes,
                     ends,
-                    pauses,
+                    notes,
+                    unions,
                     first,
                     assumed,
                     unknown,
@@ -417,7 +421,8 @@ pub fn resume(
                 let n = resume(
                     nodes,
                     ends,
-                    pauses,
+                    notes,
+                    unions,
                     first,
                     assumed,
                     more,
@@ -439,7 +444,8 @@ pub fn resume(
             let n = resume(
                 nodes,
                 ends,
-                pauses,
+                notes,
+                unions,
                 first,
                 with,
                 0,
@@ -454,7 +460,8 @@ pub fn resume(
             let n2 = resume(
                 nodes,
                 ends,
-                pauses,
+                notes,
+                unions,
                 first,
                 without,
                 0,
@@ -470,7 +477,8 @@ pub fn resume(
             let n1 = resume(
                 nodes,
                 ends,
-                pauses,
+                notes,
+                unions,
                 first,
                 assumed,
                 unknown,
@@ -483,7 +491,8 @@ pub fn resume(
             let n2 = resume(
                 nodes,
                 ends,
-                pauses,
+                notes,
+                unions,
                 second,
                 assumed,
                 unknown,
@@ -499,7 +508,8 @@ pub fn resume(
             let n = resume(
                 nodes,
                 ends,
-                pauses,
+                notes,
+                unions,
                 first,
                 assumed,
                 unknown,
@@ -523,7 +533,8 @@ pub fn resume(
             let n2 = resume(
                 nodes,
                 ends,
-                pauses,
+                notes,
+                unions,
                 second,
                 assumed,
                 unknown,
@@ -536,11 +547,12 @@ pub fn resume(
         }
         table::PARALLEL => {
             let second = ends[first] as usize;
-            if labels & pauses[first] == 0 {
+            if labels & pauses_of(notes, unions, first) == 0 {
                 return resume(
                     nodes,
                     ends,
-                    pauses,
+                    notes,
+                    unions,
                     second,
                     assumed,
                     unknown,
@@ -553,7 +565,8 @@ pub fn resume(
             let n1 = resume(
                 nodes,
                 ends,
-                pauses,
+                notes,
+                unions,
                 first,
                 assumed,
                 unknown,
@@ -562,14 +575,15 @@ pub fn resume(
                 area,
                 base,
             );
-            if labels & pauses[second] == 0 {
+            if labels & pauses_of(notes, unions, second) == 0 {
                 return n1;
             }
             let top = above(area, base, n1);
             let n2 = resume(
                 nodes,
                 ends,
-                pauses,
+                notes,
+                unions,
                 second,
                 assumed,
                 unknown,
@@ -584,7 +598,8 @@ pub fn resume(
             let n = resume(
                 nodes,
                 ends,
-                pauses,
+                notes,
+                unions,
                 first,
                 assumed,
                 unknown,
@@ -599,7 +614,8 @@ pub fn resume(
             let n = resume(
                 nodes,
                 ends,
-                pauses,
+                notes,
+                unions,
                 first,
                 assumed,
                 unknown,

@@ -16,7 +16,14 @@ slice-aggregate-list-with : tie.Need-slice-aggregate-list-with
 slice-aggregate-list-with c = search needs
 
 list-with-requires : tie.Need-list-with-requires
-list-with-requires c κs = (search needs, record { all = search needs; known = known-zeros 1024 })
+list-with-requires c κs = (
+  search needs,
+  record {
+    nodes = record { all = search needs; known = known-zeros 1024 };
+    noted = record { for-ends = search needs; for-notes = search needs };
+    united = search needs;
+  },
+)
 
 same-length : tie.Need-same-length
 same-length c = search needs
@@ -32,8 +39,8 @@ unfolding listOf
 returns c =
     let at-o = c .before .before .before .before .before .before in
     let at-list-with = at-o .before in
-    let at-list-with-arg2 = at-list-with .before .before .before .before .before .before in
-    let at-state-of = at-list-with-arg2 .before .before in
+    let at-list-with-arg3 = at-list-with .before .before .before .before .before .before in
+    let at-state-of = at-list-with-arg3 .before .before .before in
     let s = at-state-of .before .before .before .before .before in
     delivered-as (at-list-with .list-with .ensures)
     (ap (fitted (length (s .args .o .now)) (length (s .args .k .now)) (length (s .args .l .now)))

@@ -17,7 +17,14 @@ slice-aggregate-list-bytes-with : tie.Need-slice-aggregate-list-bytes-with
 slice-aggregate-list-bytes-with c = search needs
 
 list-bytes-with-requires : tie.Need-list-bytes-with-requires
-list-bytes-with-requires c κs = (search needs, record { all = search needs; known = known-zeros 1024 })
+list-bytes-with-requires c κs = (
+  search needs,
+  record {
+    nodes = record { all = search needs; known = known-zeros 1024 };
+    noted = record { for-ends = search needs; for-notes = search needs };
+    united = search needs;
+  },
+)
 
 same-length : tie.Need-same-length
 same-length c = search needs
@@ -33,8 +40,8 @@ unfolding listOf
 returns c =
     let at-o = c .before .before .before .before .before .before in
     let at-list-bytes-with = at-o .before in
-    let at-list-bytes-with-arg2 = at-list-bytes-with .before .before .before .before .before .before in
-    let at-state-of = at-list-bytes-with-arg2 .before .before in
+    let at-list-bytes-with-arg3 = at-list-bytes-with .before .before .before .before .before .before in
+    let at-state-of = at-list-bytes-with-arg3 .before .before .before in
     let s = at-state-of .before .before .before .before .before in
     bytes-as (at-list-bytes-with .list-bytes-with .ensures)
     (ap (fitted (length (s .args .o .now) / 4) (length (s .args .k .now)) (length (s .args .l .now) / 8))

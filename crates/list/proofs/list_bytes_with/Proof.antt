@@ -23,8 +23,8 @@ same-length c = search needs
 returns : tie.Need-returns
 returns c =
     let at-find = c .before .before .before .before in
-    let at-slice-known3 = at-find .before .before .before .before .before .before in
-    let s = at-slice-known3 .before .before .before .before in
+    let at-slice-known4 = at-find .before .before .before .before .before .before in
+    let s = at-slice-known4 .before .before .before .before .before in
     bytes-refused _ _
     (passed-on _ (at-find .find .result) (s .args .area .now) _ (at-find .find .ensures) (length (s .args .o .now) / 4) (length (s .args .k .now)) (length (s .args .l .now) / 8) _ (c .enum-told .given .1))
     _ _ _ _ (c .enum-told .given .1)
@@ -33,8 +33,8 @@ deliver-bytes-requires : tie.Need-deliver-bytes-requires
 deliver-bytes-requires c κs =
     let at-answer = c .before .before .before .before .before in
     let at-find = at-answer .before .before .before .before in
-    let at-slice-known3 = at-find .before .before .before .before .before .before in
-    let s = at-slice-known3 .before .before .before .before in
+    let at-slice-known4 = at-find .before .before .before .before .before .before in
+    let s = at-slice-known4 .before .before .before .before .before in
     count-fits _ (at-find .find .result) (s .args .area .now) _ (at-find .find .ensures) _ (at-answer .answer .given .1) (s .pre .0)
 
 same-length-2 : tie.Need-same-length-2
@@ -54,8 +54,8 @@ returns-2 c =
     let at-deliver-bytes = c .before .before .before .before .before .before in
     let at-answer = at-deliver-bytes .before .before .before .before .before .before in
     let at-find = at-answer .before .before .before .before in
-    let at-slice-known3 = at-find .before .before .before .before .before .before in
-    let s = at-slice-known3 .before .before .before .before in
+    let at-slice-known4 = at-find .before .before .before .before .before .before in
+    let s = at-slice-known4 .before .before .before .before .before in
     bytes-as (at-deliver-bytes .deliver-bytes .ensures)
     (ap (fitted (length (s .args .o .now) / 4) (length (s .args .k .now)) (length (s .args .l .now) / 8))
     (count-found _ (at-find .find .result) (s .args .area .now) _ (at-find .find .ensures) _ (at-answer .answer .given .1)))

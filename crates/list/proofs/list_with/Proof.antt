@@ -22,8 +22,8 @@ same-length c = search needs
 returns : tie.Need-returns
 returns c =
     let at-find = c .before .before .before .before in
-    let at-slice-known3 = at-find .before .before .before .before .before .before in
-    let s = at-slice-known3 .before .before .before .before in
+    let at-slice-known4 = at-find .before .before .before .before .before .before in
+    let s = at-slice-known4 .before .before .before .before .before in
     delivered-refused _ _
     (passed-on _ (at-find .find .result) (s .args .area .now) _ (at-find .find .ensures) (length (s .args .o .now)) (length (s .args .k .now)) (length (s .args .l .now)) _ (c .enum-told .given .1))
     _ _ _ _ (c .enum-told .given .1)
@@ -32,8 +32,8 @@ deliver-requires : tie.Need-deliver-requires
 deliver-requires c κs =
     let at-answer = c .before .before .before .before .before in
     let at-find = at-answer .before .before .before .before in
-    let at-slice-known3 = at-find .before .before .before .before .before .before in
-    let s = at-slice-known3 .before .before .before .before in
+    let at-slice-known4 = at-find .before .before .before .before .before .before in
+    let s = at-slice-known4 .before .before .before .before .before in
     count-fits _ (at-find .find .result) (s .args .area .now) _ (at-find .find .ensures) _ (at-answer .answer .given .1) (s .pre .0)
 
 same-length-2 : tie.Need-same-length-2
@@ -53,8 +53,8 @@ returns-2 c =
     let at-deliver = c .before .before .before .before .before .before in
     let at-answer = at-deliver .before .before .before .before .before .before in
     let at-find = at-answer .before .before .before .before in
-    let at-slice-known3 = at-find .before .before .before .before .before .before in
-    let s = at-slice-known3 .before .before .before .before in
+    let at-slice-known4 = at-find .before .before .before .before .before .before in
+    let s = at-slice-known4 .before .before .before .before .before in
     delivered-as (at-deliver .deliver .ensures)
     (ap (fitted (length (s .args .o .now)) (length (s .args .k .now)) (length (s .args .l .now)))
     (count-found _ (at-find .find .result) (s .args .area .now) _ (at-find .find .ensures) _ (at-answer .answer .given .1)))

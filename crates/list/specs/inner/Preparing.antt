@@ -17,6 +17,7 @@ use Rattle.list.specs.declared.Prepared.the-variants.{Refused, Accepted}
 use Rattle.list.specs.declared.State.{State as Asked}
 use Rattle.list.specs.declared.State.the-variants.{Start, Resumed}
 use Rattle.list.specs.Answers.{Listing, refused, listed, listFor}
+use Rattle.list.specs.inner.Notes.{NoteRoom}
 
 -- the state that a value of the code stands for
 unfoldable pub stateIn : Asked → State
@@ -32,8 +33,8 @@ unfoldable pub limited : Statement → State → ℕ → Listing
 limited p x E = cond (crowded p x E) (refused 15) (listed (listing p x E))
 
 -- the nodes xs have the notes that the lister asks for, and the signals of M may be unknown
-pub record Listable (xs ends labels : List ℕ) (M : ℕ) : Type 0 where
-  pub noted : Resumable xs ends labels 0
+pub record Listable (xs ends notes unions : List ℕ) (M : ℕ) : Type 0 where
+  pub noted : Resumable xs ends notes unions 0
   pub slots : Slotted M 0
 
 -- room for nodes, none of which is of a kind that there is not
@@ -41,7 +42,13 @@ pub record NodeRoom (xs : List ℕ) : Type 0 where
   pub all : length xs ≡ 1024
   pub known : Known xs
 
+-- and for what is noted of them
+pub record Rooms (xs ends notes unions : List ℕ) : Type 0 where
+  pub nodes : NodeRoom xs
+  pub noted : NoteRoom ends notes
+  pub united : length unions ≡ 64
+
 -- r is a refusal of the table T in every state, or the nodes are those of its statement and can be listed
-pub record Prepares (T : Table) (r : Prepared) (xs ends labels : List ℕ) : Type 0 where
+pub record Prepares (T : Table) (r : Prepared) (xs ends notes unions : List ℕ) : Type 0 where
   pub refuses : (w : ℕ) → r ≡ Refused w → (x : State) (E : ℕ) → listAt T x E ≡ refused w
-  pub accepts : (M : ℕ) → r ≡ Accepted M → Listable xs ends labels M × ((x : State) (E : ℕ) → listAt T x E ≡ limited (statementOf xs) x E)
+  pub accepts : (M : ℕ) → r ≡ Accepted M → Listable xs ends notes unions M × ((x : State) (E : ℕ) → listAt T x E ≡ limited (statementOf xs) x E)

@@ -14,7 +14,7 @@ use Rattle.esterel.specs.Reactions.{State, resumed}
 use Rattle.esterel.specs.Trimming.{names}
 use Rattle.esterel.specs.inner.CappedRows.{CappedRows, changeRows}
 use Rattle.table.specs.Reading.{kindOfNode, operandOf}
-use Rattle.table.proofs.Places.{above-ten}
+use Rattle.table.proofs.Places.{none-of-kinds}
 use Rattle.area.specs.declared.Change.{Change}
 use Rattle.area.specs.declared.Change.the-variants.{Hide, Local, Caught}
 use Rattle.area.specs.declared.Pairing.the-variants.{Parallel}
@@ -37,6 +37,7 @@ use borrow.Fn.PlainCycle.{Measures, is, falls, and}
 use Rattle.lister.proofs.reacting.resume.Reads as resume
 use Rattle.lister.proofs.reacting.resume.Kinds as resume-kinds
 use Rattle.lister.proofs.reacting.+resume.Lts-resume as resume-lts
+use Rattle.lister.proofs.noted.pauses_of.Reads as pauses-of-reads
 use Rattle.lister.proofs.reacting.above.Reads as above-reads
 use Rattle.lister.proofs.reacting.alone.Reads as alone-reads
 use Rattle.lister.proofs.reacting.either.Reads as either-reads
@@ -56,17 +57,19 @@ use Rattle.table.proofs.operand_of.Reads as operand-of-reads
 use Rattle.lister.proofs.reacting.+resume.{statement}
 use Rattle.lister.proofs.reacting.+resume.Tie.{close}
 
-abbrev μ-resume : Measures 4 resume-kinds.ps ℕ
-μ-resume κs a = depth (partAt (a .0 .now) (a .1 .1 .1 .0))
+abbrev μ-resume : Measures 5 resume-kinds.ps ℕ
+μ-resume κs a = depth (partAt (a .0 .now) (a .1 .1 .1 .1 .0))
 
-abbrev resume-at : ℕ → In 4 resume-kinds.ps
-resume-at t = and 4 resume-kinds.ps (is 4 resume-kinds.ps μ-resume t) resume.Pre
+abbrev resume-at : ℕ → In 5 resume-kinds.ps
+resume-at t = and 5 resume-kinds.ps (is 5 resume-kinds.ps μ-resume t) resume.Pre
 
-abbrev resume-below : ℕ → In 4 resume-kinds.ps
-resume-below t = and 4 resume-kinds.ps (falls 4 resume-kinds.ps _<_ μ-resume t) resume.Pre
+abbrev resume-below : ℕ → In 5 resume-kinds.ps
+resume-below t = and 5 resume-kinds.ps (falls 5 resume-kinds.ps _<_ μ-resume t) resume.Pre
 
 abbrev claims : ℕ → resume-lts.Claims
 claims t = (
+  pauses-of-reads.Asked,
+  pauses-of-reads.Learnt,
   operand-of-reads.Asked,
   operand-of-reads.Learnt,
   kind-of-reads.Asked,
@@ -123,7 +126,7 @@ module _ (t : ℕ) (s : resume-lts.Start (claims t) (resume-at t) resume.Post) w
   abbrev short : s .args .base ≤ length (s .args .area .now)
   short = s .pre .1 .0
 
-  abbrev ready : Resumable nodes (s .args .ends .now) (s .args .pauses .now) place
+  abbrev ready : Resumable nodes (s .args .ends .now) (s .args .notes .now) (s .args .unions .now) place
   ready = s .pre .1 .1
 
   abbrev slots : Slotted (s .args .slotted) (s .args .unknown)
@@ -149,7 +152,7 @@ module _ (t : ℕ) (c : resume-lts.Else2 (claims t) (resume-at t) resume.Post) w
   entry = c .before .before .before .before
 
   met : entry .args .labels intersect pauses (partAt (nodes t entry) (place t entry)) ≡ 0 → ⊥
-  met = meets (ready t entry) (entry .args .labels) (c .if2 .left)
+  met = meets (ready t entry) (entry .args .labels) (c .before .pauses-of .ensures) (c .if2 .left)
 
 -- ---- before the decision over the kinds
 module _ (t : ℕ) (k : resume-lts.After-kind-of (claims t) (resume-at t) resume.Post) where
@@ -277,7 +280,7 @@ module _ (t : ℕ) (c : resume-lts.Else7 (claims t) (resume-at t) resume.Post) w
   pair = c .before .before .before
 
   met-left : of-parallel t pair .args .labels intersect pauses (partAt (nodes t (of-parallel t pair)) (place t (of-parallel t pair) + 1)) ≡ 0 → ⊥
-  met-left = let s = of-parallel t pair in meets (resumable-at (ready t s) (left-part t pair)) (s .args .labels) (c .if7 .left)
+  met-left = let s = of-parallel t pair in meets (resumable-at (ready t s) (left-part t pair)) (s .args .labels) (c .before .pauses-of2 .ensures) (c .if7 .left)
 
 -- ---- loop and try
 module _ (t : ℕ) (c : resume-lts.At-match-keys10 (claims t) (resume-at t) resume.Post) where
@@ -300,18 +303,15 @@ module _ (t : ℕ) where
       let s = c .before .before in
       made-cramped (s .args .area .now) (s .args .base) (room t s) 66 _ (omega arith) (let e = c .if1 .taken in omega arith)
 
-  mul-if2 : resume-lts.Need-mul-if2 (claims t) (resume-at t) resume.Post
-  mul-if2 c = omega (arith, place-few (ready t (c .before .before) .ready))
-
-  element-copy-out-if2 : resume-lts.Need-element-copy-out-if2 (claims t) (resume-at t) resume.Post
-  element-copy-out-if2 c = place-few (ready t (c .before .before) .ready)
+  pauses-of-requires : resume-lts.Need-pauses-of-requires (claims t) (resume-at t) resume.Post
+  pauses-of-requires c κs = place-few (ready t (c .before .before) .ready)
 
   returns-2 : resume-lts.Need-returns-2 (claims t) (resume-at t) resume.Post
   returns-2 c =
       let s = c .before .before .before .before in
       let a = s .args in
       resumed-quiet (a .area .now) (a .base) (room t s) (a .slotted) (partAt (nodes t s) (place t s)) (a .labels) (a .assumed) (a .unknown) (short t s)
-      (meets-not (ready t s) (a .labels) (c .if2 .taken))
+      (meets-not (ready t s) (a .labels) (c .before .pauses-of .ensures) (c .if2 .taken))
 
   mul-node : resume-lts.Need-mul-node (claims t) (resume-at t) resume.Post
   mul-node c = omega (arith, place-few (ready t (entry t c) .ready))
@@ -555,11 +555,8 @@ module _ (t : ℕ) where
   cast-second-3 : resume-lts.Need-cast-second-3 (claims t) (resume-at t) resume.Post
   cast-second-3 c = let k = c .before in omega (arith, place-few (ready-at (ready t (of-parallel t k) .ready) (right-part t k)))
 
-  mul-if7 : resume-lts.Need-mul-if7 (claims t) (resume-at t) resume.Post
-  mul-if7 c = let k = c .before in omega (arith, place-few (ready-at (ready t (of-parallel t k) .ready) (left-part t k)))
-
-  element-copy-out-if7 : resume-lts.Need-element-copy-out-if7 (claims t) (resume-at t) resume.Post
-  element-copy-out-if7 c = let k = c .before in place-few (ready-at (ready t (of-parallel t k) .ready) (left-part t k))
+  pauses-of-requires-2 : resume-lts.Need-pauses-of-requires-2 (claims t) (resume-at t) resume.Post
+  pauses-of-requires-2 c κs = let k = c .before in place-few (ready-at (ready t (of-parallel t k) .ready) (left-part t k))
 
   resume-requires-9 : resume-lts.Need-resume-requires-9 (claims t) (resume-at t) resume.Post
   resume-requires-9 c κs =
@@ -575,7 +572,7 @@ module _ (t : ℕ) where
       let s = of-parallel t k in
       let a = s .args in
       resumed-right (ready t s .ready) (a .slotted) (a .labels) (a .assumed) (a .unknown) (second t s) refl (parallel-key t k)
-      (meets-not (resumable-at (ready t s) (left-part t k)) (a .labels) (d .if7 .taken)) (child-made (right-part t k) (g .resume9 .ensures))
+      (meets-not (resumable-at (ready t s) (left-part t k)) (a .labels) (d .before .pauses-of2 .ensures) (d .if7 .taken)) (child-made (right-part t k) (g .resume9 .ensures))
 
   same-length-4 : resume-lts.Need-same-length-4 (claims t) (resume-at t) resume.Post
   same-length-4 c = returns-6 c .same
@@ -586,11 +583,8 @@ module _ (t : ℕ) where
       let s = of-parallel t k in
       (falls-to t s (left-part t k), (short t s, resumable-at (ready t s) (left-part t k), slots t s))
 
-  mul-if8 : resume-lts.Need-mul-if8 (claims t) (resume-at t) resume.Post
-  mul-if8 c = let k = pair t (c .before .before .before .before) in omega (arith, place-few (ready-at (ready t (of-parallel t k) .ready) (right-part t k)))
-
-  element-copy-out-if8 : resume-lts.Need-element-copy-out-if8 (claims t) (resume-at t) resume.Post
-  element-copy-out-if8 c = let k = pair t (c .before .before .before .before) in place-few (ready-at (ready t (of-parallel t k) .ready) (right-part t k))
+  pauses-of-requires-3 : resume-lts.Need-pauses-of-requires-3 (claims t) (resume-at t) resume.Post
+  pauses-of-requires-3 c κs = let k = pair t (c .before .before .before .before) in place-few (ready-at (ready t (of-parallel t k) .ready) (right-part t k))
 
   returns-7 : resume-lts.Need-returns-7 (claims t) (resume-at t) resume.Post
   returns-7 c =
@@ -600,7 +594,7 @@ module _ (t : ℕ) where
       let s = of-parallel t k in
       let a = s .args in
       resumed-left (ready t s .ready) (a .slotted) (a .labels) (a .assumed) (a .unknown) (second t s) refl (parallel-key t k) (met-left t d)
-      (meets-not (resumable-at (ready t s) (right-part t k)) (a .labels) (c .if8 .taken)) (child-made (left-part t k) (g .resume10 .ensures))
+      (meets-not (resumable-at (ready t s) (right-part t k)) (a .labels) (c .before .pauses-of3 .ensures) (c .if8 .taken)) (child-made (left-part t k) (g .resume10 .ensures))
 
   same-length-5 : resume-lts.Need-same-length-5 (claims t) (resume-at t) resume.Post
   same-length-5 c = returns-7 c .same
@@ -755,7 +749,7 @@ module _ (t : ℕ) where
       let s = of-parallel t k in
       let a = s .args in
       resumed-both (ready t s .ready) (a .slotted) (a .labels) (a .assumed) (a .unknown) (second t s) refl (parallel-key t k) (met-left t (g .before .before))
-      (meets (resumable-at (ready t s) (right-part t k)) (a .labels) (y .if8 .left))
+      (meets (resumable-at (ready t s) (right-part t k)) (a .labels) (y .before .pauses-of3 .ensures) (y .if8 .left))
       (joined-child (right-part t k) (child-made (left-part t k) (g .resume10 .ensures)) (u .above4 .ensures) (i .resume11 .ensures) (product Parallel) (short t s) (x .together .ensures))
 
   same-length-10 : resume-lts.Need-same-length-10 (claims t) (resume-at t) resume.Post
@@ -789,10 +783,8 @@ module _ (t : ℕ) where
   returns-19 c =
       let k = c .before .before in
       let s = begun t k in
-      let m = c .before .match .rest in
-      let z = m .0 .0 .0 .0 .0 in
       absurd (not-known (nodes t s) (place t s) _ (ready t s .ready .known) (k .kind-of .ensures)
-      (above-ten (k .kind-of .result) (z .0 .0 .0 .0 .0 .1) (z .0 .0 .0 .0 .1) (z .0 .0 .0 .1) (z .0 .0 .1) (z .0 .1) (z .1) (m .0 .0 .0 .0 .1) (m .0 .0 .0 .1) (m .0 .0 .1) (m .0 .1) (m .1)))
+      (none-of-kinds (k .kind-of .result) (c .before .match .rest)))
 
   returns-20 : resume-lts.Need-returns-20 (claims t) (resume-at t) resume.Post
   returns-20 c =
@@ -809,8 +801,7 @@ pub +resume-spec : {M : Type 1} → statement M
     (resume-at t)
     resume.Post
     (returns t)
-    (mul-if2 t)
-    (element-copy-out-if2 t)
+    (pauses-of-requires t)
     (returns-2 t)
     (mul-node t)
     (element-copy-out-node t)
@@ -856,14 +847,12 @@ pub +resume-spec : {M : Type 1} → statement M
     (mul-second-3 t)
     (element-copy-out-second-3 t)
     (cast-second-3 t)
-    (mul-if7 t)
-    (element-copy-out-if7 t)
+    (pauses-of-requires-2 t)
     (resume-requires-9 t)
     (same-length-4 t)
     (returns-6 t)
     (resume-requires-10 t)
-    (mul-if8 t)
-    (element-copy-out-if8 t)
+    (pauses-of-requires-3 t)
     (same-length-5 t)
     (returns-7 t)
     (above-requires-4 t)

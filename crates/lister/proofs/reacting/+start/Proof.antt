@@ -15,7 +15,7 @@ use Rattle.esterel.specs.Trimming.{names}
 use Rattle.esterel.specs.inner.CappedRows.{CappedRows, changeRows, cappedRows}
 use Rattle.table.proofs.Nodes.{depth-positive}
 use Rattle.table.specs.Reading.{kindOfNode, operandOf}
-use Rattle.table.proofs.Places.{above-ten}
+use Rattle.table.proofs.Places.{none-of-kinds}
 use Rattle.area.specs.declared.Change.{Change}
 use Rattle.area.specs.declared.Change.the-variants.{Hide, Local, Given, Going, Caught}
 use Rattle.area.specs.declared.Pairing.the-variants.{Parallel}
@@ -881,11 +881,7 @@ module _ (t : ℕ) where
   returns-19 c =
       let k = c .before .before in
       let s = begun t k in
-      let m = c .before .match .rest in
-      let low = m .0 .0 .0 .0 in
-      let lower = low .0 .0 .0 in
-      let high = above-ten (k .kind-of .result) (lower .0 .0 .0 .1) (lower .0 .0 .1) (lower .0 .1) (lower .1) (low .0 .0 .1) (low .0 .1) (low .1) (m .0 .0 .0 .1) (m .0 .0 .1) (m .0 .1) (m .1) in
-      absurd (not-known (nodes t s) (place t s) (k .kind-of .result) (ready t s .known) (k .kind-of .ensures) high)
+      absurd (not-known (nodes t s) (place t s) (k .kind-of .result) (ready t s .known) (k .kind-of .ensures) (none-of-kinds (k .kind-of .result) (c .before .match .rest)))
 
   returns-20 : start-lts.Need-returns-20 (claims t) (start-at t) start.Post
   returns-20 c =
