@@ -263,7 +263,10 @@ pub fn summary_at(
         table::GOTOPAUSE => of_gotopause(Label(operand), next),
         table::EMIT => of_nothing(next),
         table::EXIT => of_exit(Level(operand), next),
-        table::SIGNAL => summary_at(nodes, next, below, kept),
+        table::SIGNAL => {
+            let p = summary_at(nodes, next, below, kept);
+            p
+        }
         table::PRESENT => {
             let p = summary_at(nodes, next, below, kept);
             let q = summary_at(nodes, p.next, below, kept);
