@@ -12,6 +12,14 @@ use Rattle.esterel.specs.Trimming.{isNothing, joinParts, names, endsAt, shiftEx
 use Rattle.trim.specs.inner.Notes.{live}
 use Rattle.trim.proofs.Dropped.{nothing-none}
 
+never-false : (z : Bool) → (z ≡ false → ⊥) → z ≡ true
+never-false true f = refl
+never-false false f = absurd (f refl)
+
+pub not-false : (z : Bool) → not z ≡ false → z ≡ true
+not-false true e = refl
+not-false false e = sym e
+
 -- ---- whether two sets meet
 abbrev meets : ℕ → ℕ → Bool
 meets a R = not (eqb (a intersect R) 0)
@@ -20,22 +28,14 @@ apart-meets : (a R : ℕ) → Apart a R → meets a R ≡ false
 apart-meets a R h = ap not (apart-test a R h)
 
 meets-apart : (a R : ℕ) → meets a R ≡ false → Apart a R
-meets-apart a R h = test-apart a R (flip (eqb (a intersect R) 0) h)
-  where
-    flip : (z : Bool) → not z ≡ false → z ≡ true
-    flip true e = refl
-    flip false e = sym e
-
-not-false : (z : Bool) → (z ≡ false → ⊥) → z ≡ true
-not-false true f = refl
-not-false false f = absurd (f refl)
+meets-apart a R h = test-apart a R (not-false (eqb (a intersect R) 0) h)
 
 union-meets : (a b R : ℕ) → meets (a union b) R ≡ (meets a R || meets b R)
 union-meets a b R = go (meets a R) (meets b R) refl refl
   where
     go : (x y : Bool) → meets a R ≡ x → meets b R ≡ y → meets (a union b) R ≡ (x || y)
-    go true y e f = not-false (meets (a union b) R) (λ n. clash e (apart-meets a R (union-apart⁻ a b R (meets-apart (a union b) R n) .0)))
-    go false true e f = not-false (meets (a union b) R) (λ n. clash f (apart-meets b R (union-apart⁻ a b R (meets-apart (a union b) R n) .1)))
+    go true y e f = never-false (meets (a union b) R) (λ n. clash e (apart-meets a R (union-apart⁻ a b R (meets-apart (a union b) R n) .0)))
+    go false true e f = never-false (meets (a union b) R) (λ n. clash f (apart-meets b R (union-apart⁻ a b R (meets-apart (a union b) R n) .1)))
     go false false e f =
         apart-meets (a union b) R (apart-sym R (a union b) (apart-union R a b (apart-sym a R (meets-apart a R e)) (apart-sym b R (meets-apart b R f))))
 
@@ -43,7 +43,7 @@ only-meets : (l R : ℕ) → meets (only l) R ≡ has R l
 only-meets l R = go (has R l) refl
   where
     go : (z : Bool) → has R l ≡ z → meets (only l) R ≡ z
-    go true e = not-false (meets (only l) R) (λ n. clash e (meets-apart (only l) R n l (has-only l)))
+    go true e = never-false (meets (only l) R) (λ n. clash e (meets-apart (only l) R n l (has-only l)))
     go false e = apart-meets (only l) R (λ x m. subst (λ (y : ℕ). has R y ≡ false) (has-only-equal l x m) e)
 
 -- ---- live statements
