@@ -24,8 +24,8 @@ pub enum Analysed {
     Rest(Settled),
 }
 
-// Rounds until one adds no label, with room lent for the summary. The nodes are passed over once; a round joins
-// what the summary has of the labels that the round before it added.
+// Rounds until one adds no label, with room lent for the summary. The nodes are passed over once; a round joins what the summary
+// has of the labels that the round before it added.
 fn rounds_with(nodes: &[u16; table::MOST_NODES], kept: &mut [u64; summary::KEPT]) -> Analysed
     requires { ⌜ Loaded (now nodes) × (length (now kept) ≡ 128) ⌝ }
     ensures { λ r. ⌜ Reaches (now (nodes .entry)) r ⌝ }

@@ -33,7 +33,7 @@ use Rattle.trim.specs.declared.Trimmed.the-variants.{Refused, Accepted}
 use Rattle.trim.specs.inner.Levels.{levelOut, trimmedIn}
 use Rattle.trim.specs.inner.Notes.{Noted}
 use Rattle.trim.specs.inner.Marking.{Markable, Marks}
-use Rattle.trim.specs.inner.Parts.{part, PartStands, NothingFilled, reachedIn, Trimmable, Done}
+use Rattle.trim.specs.inner.Parts.{part, PartStands, NothingFilled, reachSetOf, Trimmable, Done}
 use Rattle.trim.specs.Answers.{trimmedOutcome, trimFor, bufferAfter}
 use Rattle.trim.specs.inner.Root.{Lent, Ends, EndFits, Finished}
 use Rattle.trim.proofs.Levels.{map-closed}
@@ -66,13 +66,13 @@ pub record AtRest (xs notes places work : List ℕ) (found : Settled) : Type 0 w
 
 module _ {xs notes places work : List ℕ} {found : Settled} (A : AtRest xs notes places work found) where
   abbrev R : ℕ
-  R = reachedIn xs
+  R = reachSetOf xs
 
   abbrev result : Statement
   result = trimmed (statementOf xs)
 
   reached : found .set ≡ R
-  unfolding reachedIn
+  unfolding reachSetOf
   reached = ap (λ (f : Settled). f .set) (rest-same (sym (A .is) ∙ A .reaches .rest)) ∙ A .reaches .set
 
   valid : Valid 0 result
@@ -80,7 +80,7 @@ module _ {xs notes places work : List ℕ} {found : Settled} (A : AtRest xs note
 
   -- no exit leaves the root, so its levels are those of the trimmed statement
   root-is : trimmedIn R places root (statementOf xs) ≡ result
-  unfolding trimmedIn trimmed reachedIn
+  unfolding trimmedIn trimmed reachSetOf
   root-is = map-closed (levelOut places root) 0 result valid
 
   pub root-markable : Markable 60 xs 0 notes

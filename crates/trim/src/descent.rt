@@ -1,5 +1,5 @@
-// The descent over the tree that trims it. Each node is looked at once: reach's notes say where its second child stands and
-// whether its first can end, the marks which try statements are kept, so an exit gets its level at once.
+// The descent over the tree that trims it. Each node is looked at once: its note says whether anything may be left of it, where
+// its second child stands and whether its first can end, or whether a try is kept, so an exit gets its level at once.
 use crate::noted;
 use crate::work;
 use crate::work::Part;
@@ -10,7 +10,7 @@ ghost use mathlib.Core.Bool.{_||_};
 ghost use Prim.Native.Nat.{_+_, _≤_, _<_};
 ghost use Rattle.table.specs.inner.Places.{statementAt};
 ghost use Rattle.trim.specs.inner.Levels.{levelOut, startedIf, inElse, inTry, placesIn};
-ghost use Rattle.trim.specs.inner.Parts.{reachedIn, ExitReady, Trimmable, Done};
+ghost use Rattle.trim.specs.inner.Parts.{reachSetOf, ExitReady, Trimmable, Done};
 
 // The places that are noted of try statements, by their numbers from 1: at most 59 stand around a statement.
 pub const PLACES: usize = 64;
@@ -82,7 +82,8 @@ fn level_out(places: &[u8; PLACES], around: Around, level: Level) -> Level
 }
 
 // Writes the trimmed statement at a place into the work area, so that it ends at `to`. The second child is written first,
-// so nothing is ever moved.
+// so nothing is ever moved. Of a statement that is neither started nor live nothing is left; so a leaf past that test is kept:
+// a pause is started or has its label in R, and the others are started, since they are never live.
 pub fn trim_at(
     nodes: &[u16; table::MOST_NODES],
     notes: &[u16; table::MOST_NODES],
@@ -93,8 +94,8 @@ pub fn trim_at(
     work: &mut [u16; table::MOST_NODES],
     to: usize,
 ) -> Part
-    requires { ⌜ Trimmable (reachedIn (now nodes)) (now nodes) (now notes) at left around (now places) (now work) to ⌝ }
-    ensures { λ part. ⌜ Done (reachedIn (now (nodes .entry))) (statementAt left (now (nodes .entry)) at) at left around (now (places .entry)) (now (work .entry)) to part (now (places .exit)) (now (work .exit)) ⌝ }
+    requires { ⌜ Trimmable (reachSetOf (now nodes)) (now nodes) (now notes) at left around (now places) (now work) to ⌝ }
+    ensures { λ part. ⌜ Done (reachSetOf (now (nodes .entry))) (statementAt left (now (nodes .entry)) at) at left around (now (places .entry)) (now (work .entry)) to part (now (places .exit)) (now (work .exit)) ⌝ }
 {
     if left == 0 || table::MOST_NODES <= at {
         return work::nothing(to);

@@ -1,8 +1,8 @@
 // Trim: the table of the trimmed statement.
 //
-// The cost: the nodes are cut out of the bytes and checked once; one pass, reach's, makes the summary that its rounds go by and
-// notes at the nodes what it found; one completes the notes and marks the try statements that are kept; one writes the trimmed
-// nodes, and one packs them. A pass looks at each node once and does a bounded number of steps there, whatever the depth.
+// The cost: the nodes are cut out of the bytes and checked once; one pass, reach's, makes the summary that its rounds go by; one
+// notes at the nodes what trimming asks; one writes the trimmed nodes, and passes over parts of which nothing is left; one packs
+// them. A pass looks at each node once and does a bounded number of steps there, whatever the depth.
 // Trimming works in an area of its own, which holds as many nodes as a table may have, and touches the caller's buffer only
 // when the table is known to fit.
 mod descent;
@@ -75,16 +75,7 @@ fn trim_nodes(
         kept: 0,
     };
     let to = work::END;
-    let part = descent::trim_at(
-        nodes,
-        notes,
-        0,
-        table::DEEPEST,
-        around,
-        places,
-        work,
-        to,
-    );
+    let part = descent::trim_at(nodes, notes, 0, table::DEEPEST, around, places, work, to);
     if work::is_refused(part) {
         return Laid::Refused;
     }
@@ -145,12 +136,5 @@ pub fn trim(table: &[u8], out: &mut [u8]) -> Trimmed
     let mut notes = [0u16; table::MOST_NODES];
     let mut places = [0u8; descent::PLACES];
     let mut work = [0u16; table::MOST_NODES];
-    trim_with(
-        table,
-        out,
-        &mut nodes,
-        &mut notes,
-        &mut places,
-        &mut work,
-    )
+    trim_with(table, out, &mut nodes, &mut notes, &mut places, &mut work)
 }

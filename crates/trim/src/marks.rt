@@ -164,7 +164,11 @@ fn without_child(kind: u16, operand: u8, r: u64, next: usize) -> Marked
         table::EMIT => of_leaf(codes::just_ended(), no_exits(), next),
         _ => {
             let level = Level(operand);
-            of_leaf(codes::just_code(esterel::code_of(level)), exit_at(level), next)
+            of_leaf(
+                codes::just_code(esterel::code_of(level)),
+                exit_at(level),
+                next,
+            )
         }
     }
 }

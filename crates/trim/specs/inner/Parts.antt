@@ -145,8 +145,8 @@ abbrev pub Caught : ℕ → List ℕ → Around → Statement → Type 0
 Caught R places a p = (d : ℕ) → d < a .tries → endsAt d (trim R (a .started) p) ≡ true → getD places (a .tries - d) 0 < a .kept
 
 -- R of the statement that nodes hold
-unfoldable pub reachedIn : List ℕ → ℕ
-reachedIn xs = reach (statementOf xs) .set
+unfoldable pub reachSetOf : List ℕ → ℕ
+reachSetOf xs = reach (statementOf xs) .set
 
 -- what trimming the statement at a place asks: 4 nodes of room for each node
 pub record Trimmable (R : ℕ) (xs notes : List ℕ) (at left : ℕ) (a : Around) (places work : List ℕ) (to : ℕ) : Type 0 where

@@ -11,7 +11,7 @@ use borrow.Fn.Kinds.{In}
 use borrow.Fn.PlainCycle.{Measures, is, falls, and}
 use Rattle.table.proofs.Places.{Node, none-of-kinds}
 use Rattle.trim.specs.declared.descent.Around.{Around}
-use Rattle.trim.specs.inner.Parts.{reachedIn, Trimmable}
+use Rattle.trim.specs.inner.Parts.{reachSetOf, Trimmable}
 use Rattle.trim.proofs.Parts.{sequence-fits, parallel-fits, loop-fits, try-fits}
 use Rattle.trim.proofs.Walk.{there, not-there}
 use Rattle.trim.proofs.Steps.{one-room}
@@ -57,7 +57,52 @@ abbrev trim-at-below : ℕ → In 4 trim-at-kinds.ps
 trim-at-below t = and 4 trim-at-kinds.ps (falls 4 trim-at-kinds.ps _<_ μ-trim-at t) trim-at.Pre
 
 abbrev claims : ℕ → trim-at-lts.Claims
-claims t = (nothing-reads.Asked, nothing-reads.Learnt, may-stay-reads.Asked, may-stay-reads.Learnt, operand-of-reads.Asked, operand-of-reads.Learnt, second-place-reads.Asked, second-place-reads.Learnt, kind-of-reads.Asked, kind-of-reads.Learnt, put-label-reads.Asked, put-label-reads.Learnt, singleton-reads.Asked, singleton-reads.Learnt, put-leaf-reads.Asked, put-leaf-reads.Learnt, level-out-reads.Asked, level-out-reads.Learnt, put-exit-reads.Asked, put-exit-reads.Learnt, trim-at-below t, trim-at.Post, contains-reads.Asked, contains-reads.Learnt, wrap-if-reads.Asked, wrap-if-reads.Learnt, can-end-reads.Asked, can-end-reads.Learnt, in-else-reads.Asked, in-else-reads.Learnt, close-else-reads.Asked, close-else-reads.Learnt, close-present-reads.Asked, close-present-reads.Learnt, with-started-reads.Asked, with-started-reads.Learnt, join-parts-reads.Asked, join-parts-reads.Learnt, keeps-try-reads.Asked, keeps-try-reads.Learnt, in-try-reads.Asked, in-try-reads.Learnt, refused-reads.Asked, refused-reads.Learnt)
+claims t = (
+  nothing-reads.Asked,
+  nothing-reads.Learnt,
+  may-stay-reads.Asked,
+  may-stay-reads.Learnt,
+  operand-of-reads.Asked,
+  operand-of-reads.Learnt,
+  second-place-reads.Asked,
+  second-place-reads.Learnt,
+  kind-of-reads.Asked,
+  kind-of-reads.Learnt,
+  put-label-reads.Asked,
+  put-label-reads.Learnt,
+  singleton-reads.Asked,
+  singleton-reads.Learnt,
+  put-leaf-reads.Asked,
+  put-leaf-reads.Learnt,
+  level-out-reads.Asked,
+  level-out-reads.Learnt,
+  put-exit-reads.Asked,
+  put-exit-reads.Learnt,
+  trim-at-below t,
+  trim-at.Post,
+  contains-reads.Asked,
+  contains-reads.Learnt,
+  wrap-if-reads.Asked,
+  wrap-if-reads.Learnt,
+  can-end-reads.Asked,
+  can-end-reads.Learnt,
+  in-else-reads.Asked,
+  in-else-reads.Learnt,
+  close-else-reads.Asked,
+  close-else-reads.Learnt,
+  close-present-reads.Asked,
+  close-present-reads.Learnt,
+  with-started-reads.Asked,
+  with-started-reads.Learnt,
+  join-parts-reads.Asked,
+  join-parts-reads.Learnt,
+  keeps-try-reads.Asked,
+  keeps-try-reads.Learnt,
+  in-try-reads.Asked,
+  in-try-reads.Learnt,
+  refused-reads.Asked,
+  refused-reads.Learnt,
+)
 
 -- where the kind is known: what the function was given, the node and its operand
 module _ (t : ℕ) (a : trim-at-lts.After-kind-of (claims t) (trim-at-at t) trim-at.Post) where
@@ -73,7 +118,7 @@ module _ (t : ℕ) (a : trim-at-lts.After-kind-of (claims t) (trim-at-at t) trim
   abbrev start : trim-at-lts.Start (claims t) (trim-at-at t) trim-at.Post
   start = entered .before .before
 
-  abbrev given : Trimmable (reachedIn (now (start .args .nodes))) (now (start .args .nodes)) (now (start .args .notes)) (start .args .at) (start .args .left) (start .args .around) (now (start .args .places)) (now (start .args .work)) (start .args .to)
+  abbrev given : Trimmable (reachSetOf (now (start .args .nodes))) (now (start .args .nodes)) (now (start .args .notes)) (start .args .at) (start .args .left) (start .args .around) (now (start .args .places)) (now (start .args .work)) (start .args .to)
   given = start .pre .1
 
   some : start .args .left ≢ 0

@@ -41,7 +41,36 @@ abbrev mark-at-below : ℕ → In 2 mark-at-kinds.ps
 mark-at-below t = and 2 mark-at-kinds.ps (falls 2 mark-at-kinds.ps _<_ μ-mark-at t) mark-at.Pre
 
 abbrev claims : ℕ → mark-at-lts.Claims
-claims t = (just-ended-reads.Asked, just-ended-reads.Learnt, no-exits-reads.Asked, no-exits-reads.Learnt, of-leaf-reads.Asked, of-leaf-reads.Learnt, kind-of-reads.Asked, kind-of-reads.Learnt, operand-of-reads.Asked, operand-of-reads.Learnt, without-child-reads.Asked, without-child-reads.Learnt, note-leaf-reads.Asked, note-leaf-reads.Learnt, refused-reads.Asked, refused-reads.Learnt, mark-at-below t, mark-at.Post, note-try-reads.Asked, note-try-reads.Learnt, of-try-reads.Asked, of-try-reads.Learnt, note-child-reads.Asked, note-child-reads.Learnt, of-loop-reads.Asked, of-loop-reads.Learnt, with-two-reads.Asked, with-two-reads.Learnt)
+claims t = (
+  just-ended-reads.Asked,
+  just-ended-reads.Learnt,
+  no-exits-reads.Asked,
+  no-exits-reads.Learnt,
+  of-leaf-reads.Asked,
+  of-leaf-reads.Learnt,
+  kind-of-reads.Asked,
+  kind-of-reads.Learnt,
+  operand-of-reads.Asked,
+  operand-of-reads.Learnt,
+  without-child-reads.Asked,
+  without-child-reads.Learnt,
+  note-leaf-reads.Asked,
+  note-leaf-reads.Learnt,
+  refused-reads.Asked,
+  refused-reads.Learnt,
+  mark-at-below t,
+  mark-at.Post,
+  note-try-reads.Asked,
+  note-try-reads.Learnt,
+  of-try-reads.Asked,
+  of-try-reads.Learnt,
+  note-child-reads.Asked,
+  note-child-reads.Learnt,
+  of-loop-reads.Asked,
+  of-loop-reads.Learnt,
+  with-two-reads.Asked,
+  with-two-reads.Learnt,
+)
 
 -- past the tests: what the function was given, and the node
 module _ (t : ℕ) (a : mark-at-lts.After-kind-of (claims t) (mark-at-at t) mark-at.Post) where

@@ -5,9 +5,6 @@ use Rattle.trim.specs.inner.Marking.{exits}
 use borrow.Author.Needs.{needs}
 use Rattle.trim.proofs.marks.again.Statement.{statement}
 use Rattle.trim.proofs.marks.again.Tie as tie
-use Rattle.trim.proofs.marks.again.Reads as reads
-use Rattle.trim.proofs.marks.again.Lts as lts
-use Rattle.trim.proofs.marks.exits_if.Reads as exits-if-reads
 
 exits-if-requires : tie.Need-exits-if-requires
 exits-if-requires c κs = search needs

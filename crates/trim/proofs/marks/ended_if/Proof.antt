@@ -5,10 +5,6 @@ use Rattle.esterel.specs.Codes.{none, justEnded}
 use borrow.Author.Needs.{needs}
 use Rattle.trim.proofs.marks.ended_if.Statement.{statement}
 use Rattle.trim.proofs.marks.ended_if.Tie as tie
-use Rattle.trim.proofs.marks.ended_if.Reads as reads
-use Rattle.trim.proofs.marks.ended_if.Lts as lts
-use Rattle.reach.proofs.codes.just_ended.Reads as just-ended-reads
-use Rattle.reach.proofs.codes.none.Reads as none-reads
 
 just-ended-requires : tie.Need-just-ended-requires
 just-ended-requires c κs = search needs

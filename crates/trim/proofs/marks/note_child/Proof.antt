@@ -1,17 +1,12 @@
 -- `marks::note_child` meets its contract.
 use denote.Ref.{now}
 use mathlib.Core.Path.{ap, ap₂, _∙_}
-use mathlib.Core.Bool.{Bool}
 use Prim.Native.Nat.{ℕ}
 use lib.ListN.{set}
 use Rattle.trim.specs.inner.Notes.{noteWith}
 use borrow.Author.Needs.{needs}
 use Rattle.trim.proofs.marks.note_child.Statement.{statement}
 use Rattle.trim.proofs.marks.note_child.Tie as tie
-use Rattle.trim.proofs.marks.note_child.Reads as reads
-use Rattle.trim.proofs.marks.note_child.Lts as lts
-use Rattle.reach.proofs.codes.ends.Reads as ends-reads
-use Rattle.trim.proofs.noted.note_with.Reads as note-with-reads
 
 ends-requires : tie.Need-ends-requires
 ends-requires c κs = search needs

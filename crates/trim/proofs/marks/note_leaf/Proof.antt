@@ -6,9 +6,6 @@ use lib.ListN.{set}
 use borrow.Author.Needs.{needs}
 use Rattle.trim.proofs.marks.note_leaf.Statement.{statement}
 use Rattle.trim.proofs.marks.note_leaf.Tie as tie
-use Rattle.trim.proofs.marks.note_leaf.Reads as reads
-use Rattle.trim.proofs.marks.note_leaf.Lts as lts
-use Rattle.trim.proofs.noted.note_with.Reads as note-with-reads
 
 note-with-requires : tie.Need-note-with-requires
 note-with-requires c κs = search needs

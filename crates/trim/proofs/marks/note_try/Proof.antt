@@ -1,17 +1,12 @@
 -- `marks::note_try` meets its contract.
 use denote.Ref.{now}
 use mathlib.Core.Path.{ap, ap₂, _∙_}
-use mathlib.Core.Bool.{Bool}
 use Prim.Native.Nat.{ℕ}
 use lib.ListN.{set}
 use Rattle.trim.specs.inner.Notes.{noteWith}
 use borrow.Author.Needs.{needs}
 use Rattle.trim.proofs.marks.note_try.Statement.{statement}
 use Rattle.trim.proofs.marks.note_try.Tie as tie
-use Rattle.trim.proofs.marks.note_try.Reads as reads
-use Rattle.trim.proofs.marks.note_try.Lts as lts
-use Rattle.trim.proofs.marks.ends_here.Reads as ends-here-reads
-use Rattle.trim.proofs.noted.note_with.Reads as note-with-reads
 
 ends-here-requires : tie.Need-ends-here-requires
 ends-here-requires c κs = search needs

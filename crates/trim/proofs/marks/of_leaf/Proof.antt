@@ -3,9 +3,6 @@ use mathlib.Core.Path.{refl, sym, _∙_}
 use borrow.Author.Needs.{needs}
 use Rattle.trim.proofs.marks.of_leaf.Statement.{statement}
 use Rattle.trim.proofs.marks.of_leaf.Tie as tie
-use Rattle.trim.proofs.marks.of_leaf.Reads as reads
-use Rattle.trim.proofs.marks.of_leaf.Lts as lts
-use Rattle.reach.proofs.codes.none.Reads as none-reads
 
 none-requires : tie.Need-none-requires
 none-requires c κs = search needs

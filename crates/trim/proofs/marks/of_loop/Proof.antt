@@ -6,12 +6,6 @@ use Rattle.trim.proofs.Marking.{found-loop}
 use borrow.Author.Needs.{needs}
 use Rattle.trim.proofs.marks.of_loop.Statement.{statement}
 use Rattle.trim.proofs.marks.of_loop.Tie as tie
-use Rattle.trim.proofs.marks.of_loop.Reads as reads
-use Rattle.trim.proofs.marks.of_loop.Lts as lts
-use Rattle.reach.proofs.codes.ends.Reads as ends-reads
-use Rattle.reach.proofs.codes.followed_by.Reads as followed-by-reads
-use Rattle.reach.proofs.codes.minus_zero.Reads as minus-zero-reads
-use Rattle.trim.proofs.marks.again.Reads as again-reads
 
 minus-zero-requires : tie.Need-minus-zero-requires
 minus-zero-requires c κs = search needs

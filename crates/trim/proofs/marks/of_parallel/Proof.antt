@@ -4,11 +4,6 @@ use Rattle.trim.proofs.Marking.{found-parallel}
 use borrow.Author.Needs.{needs}
 use Rattle.trim.proofs.marks.of_parallel.Statement.{statement}
 use Rattle.trim.proofs.marks.of_parallel.Tie as tie
-use Rattle.trim.proofs.marks.of_parallel.Reads as reads
-use Rattle.trim.proofs.marks.of_parallel.Lts as lts
-use Rattle.reach.proofs.codes.join.Reads as join-reads
-use Rattle.reach.proofs.codes.maximum.Reads as maximum-reads
-use Rattle.trim.proofs.marks.either.Reads as either-reads
 
 maximum-requires : tie.Need-maximum-requires
 maximum-requires c κs = search needs

@@ -4,12 +4,6 @@ use Rattle.trim.proofs.Marking.{found-pause}
 use borrow.Author.Needs.{needs}
 use Rattle.trim.proofs.marks.of_pause.Statement.{statement}
 use Rattle.trim.proofs.marks.of_pause.Tie as tie
-use Rattle.trim.proofs.marks.of_pause.Reads as reads
-use Rattle.trim.proofs.marks.of_pause.Lts as lts
-use Rattle.reach.proofs.codes.just_at.Reads as just-at-reads
-use Rattle.sets.proofs.contains.Reads as contains-reads
-use Rattle.trim.proofs.marks.ended_if.Reads as ended-if-reads
-use Rattle.trim.proofs.marks.no_exits.Reads as no-exits-reads
 
 contains-requires : tie.Need-contains-requires
 contains-requires c κs = search needs

@@ -4,10 +4,6 @@ use Rattle.trim.proofs.Marking.{found-present}
 use borrow.Author.Needs.{needs}
 use Rattle.trim.proofs.marks.of_present.Statement.{statement}
 use Rattle.trim.proofs.marks.of_present.Tie as tie
-use Rattle.trim.proofs.marks.of_present.Reads as reads
-use Rattle.trim.proofs.marks.of_present.Lts as lts
-use Rattle.reach.proofs.codes.join.Reads as join-reads
-use Rattle.trim.proofs.marks.either.Reads as either-reads
 
 join-requires : tie.Need-join-requires
 join-requires c κs = search needs

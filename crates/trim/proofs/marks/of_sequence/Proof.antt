@@ -8,12 +8,6 @@ use Rattle.trim.proofs.Marking.{found-sequence}
 use borrow.Author.Needs.{needs}
 use Rattle.trim.proofs.marks.of_sequence.Statement.{statement}
 use Rattle.trim.proofs.marks.of_sequence.Tie as tie
-use Rattle.trim.proofs.marks.of_sequence.Reads as reads
-use Rattle.trim.proofs.marks.of_sequence.Lts as lts
-use Rattle.reach.proofs.codes.ends.Reads as ends-reads
-use Rattle.reach.proofs.codes.followed_by.Reads as followed-by-reads
-use Rattle.reach.proofs.codes.join.Reads as join-reads
-use Rattle.trim.proofs.marks.in_turn.Reads as in-turn-reads
 
 ends-requires : tie.Need-ends-requires
 ends-requires c κs = search needs

@@ -4,10 +4,6 @@ use Rattle.trim.proofs.Marking.{found-try}
 use borrow.Author.Needs.{needs}
 use Rattle.trim.proofs.marks.of_try.Statement.{statement}
 use Rattle.trim.proofs.marks.of_try.Tie as tie
-use Rattle.trim.proofs.marks.of_try.Reads as reads
-use Rattle.trim.proofs.marks.of_try.Lts as lts
-use Rattle.reach.proofs.codes.through_try.Reads as through-try-reads
-use Rattle.trim.proofs.marks.outside.Reads as outside-reads
 
 through-try-requires : tie.Need-through-try-requires
 through-try-requires c κs = search needs

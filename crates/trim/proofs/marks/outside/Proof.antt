@@ -4,9 +4,6 @@ use Rattle.trim.specs.inner.Marking.{exits}
 use borrow.Author.Needs.{needs}
 use Rattle.trim.proofs.marks.outside.Statement.{statement}
 use Rattle.trim.proofs.marks.outside.Tie as tie
-use Rattle.trim.proofs.marks.outside.Reads as reads
-use Rattle.trim.proofs.marks.outside.Lts as lts
-use Rattle.trim.proofs.marks.lowered.Reads as lowered-reads
 
 lowered-requires : tie.Need-lowered-requires
 lowered-requires c κs = search needs

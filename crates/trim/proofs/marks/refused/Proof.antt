@@ -3,11 +3,6 @@ use Rattle.trim.proofs.Marking.{found-nothing}
 use borrow.Author.Needs.{needs}
 use Rattle.trim.proofs.marks.refused.Statement.{statement}
 use Rattle.trim.proofs.marks.refused.Tie as tie
-use Rattle.trim.proofs.marks.refused.Reads as reads
-use Rattle.trim.proofs.marks.refused.Lts as lts
-use Rattle.reach.proofs.codes.just_ended.Reads as just-ended-reads
-use Rattle.trim.proofs.marks.no_exits.Reads as no-exits-reads
-use Rattle.trim.proofs.marks.of_leaf.Reads as of-leaf-reads
 
 just-ended-requires : tie.Need-just-ended-requires
 just-ended-requires c κs = search needs

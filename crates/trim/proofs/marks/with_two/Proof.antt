@@ -1,17 +1,11 @@
 -- `marks::with_two` meets its contract: each arm is the law of its kind.
 use mathlib.Core.Path.{_≡_}
-use Prim.Native.Nat.{ℕ}
 use native.Mathlib.Omega.{arith}
 use Rattle.table.specs.Kinds.{kinds, kindOf}
 use Rattle.table.specs.inner.Places.{placeKind}
 use borrow.Author.Needs.{needs}
 use Rattle.trim.proofs.marks.with_two.Statement.{statement}
 use Rattle.trim.proofs.marks.with_two.Tie as tie
-use Rattle.trim.proofs.marks.with_two.Reads as reads
-use Rattle.trim.proofs.marks.with_two.Lts as lts
-use Rattle.trim.proofs.marks.of_parallel.Reads as of-parallel-reads
-use Rattle.trim.proofs.marks.of_present.Reads as of-present-reads
-use Rattle.trim.proofs.marks.of_sequence.Reads as of-sequence-reads
 
 of-present-requires : tie.Need-of-present-requires
 of-present-requires c κs = search needs

@@ -1,6 +1,5 @@
 -- `marks::without_child` meets its contract: each arm is the law of its kind.
 use mathlib.Core.Path.{_≡_, ap, _∙_}
-use Prim.Native.Nat.{ℕ}
 use native.Mathlib.Omega.{arith}
 use Rattle.esterel.specs.Codes.{codeOf, justCode}
 use Rattle.table.specs.Kinds.{kinds, kindOf}
@@ -9,16 +8,6 @@ use Rattle.trim.proofs.Marking.{found-nothing, found-gotopause, found-e
 use borrow.Author.Needs.{needs}
 use Rattle.trim.proofs.marks.without_child.Statement.{statement}
 use Rattle.trim.proofs.marks.without_child.Tie as tie
-use Rattle.trim.proofs.marks.without_child.Reads as reads
-use Rattle.trim.proofs.marks.without_child.Lts as lts
-use Rattle.esterel.proofs.code_of.Reads as code-of-reads
-use Rattle.reach.proofs.codes.just_at.Reads as just-at-reads
-use Rattle.reach.proofs.codes.just_code.Reads as just-code-reads
-use Rattle.reach.proofs.codes.just_ended.Reads as just-ended-reads
-use Rattle.trim.proofs.marks.exit_at.Reads as exit-at-reads
-use Rattle.trim.proofs.marks.no_exits.Reads as no-exits-reads
-use Rattle.trim.proofs.marks.of_leaf.Reads as of-leaf-reads
-use Rattle.trim.proofs.marks.of_pause.Reads as of-pause-reads
 
 -- past the other kinds it is an exit
 exit-kind : (m : tie.At-match-rest) → m .before .args .kind ≡ 4

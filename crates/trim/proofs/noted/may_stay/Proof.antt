@@ -6,8 +6,6 @@ use Rattle.trim.specs.inner.Notes.{liveOf}
 use borrow.Author.Needs.{needs}
 use Rattle.trim.proofs.noted.may_stay.Statement.{statement}
 use Rattle.trim.proofs.noted.may_stay.Tie as tie
-use Rattle.trim.proofs.noted.may_stay.Reads as reads
-use Rattle.trim.proofs.noted.may_stay.Lts as lts
 
 returns : tie.Need-returns
 returns c = search needs

@@ -5,9 +5,6 @@ use Rattle.trim.proofs.Notes.{flag-small}
 use borrow.Author.Needs.{needs}
 use Rattle.trim.proofs.noted.note_with.Statement.{statement}
 use Rattle.trim.proofs.noted.note_with.Tie as tie
-use Rattle.trim.proofs.noted.note_with.Reads as reads
-use Rattle.trim.proofs.noted.note_with.Lts as lts
-use Rattle.trim.proofs.noted.flag_of.Reads as flag-of-reads
 
 cast-result : tie.Need-cast-result
 cast-result c = search needs

@@ -5,9 +5,6 @@ use Rattle.trim.proofs.Parts.{leaf-put}
 use borrow.Author.Needs.{needs}
 use Rattle.trim.proofs.work.put_leaf.Statement.{statement}
 use Rattle.trim.proofs.work.put_leaf.Tie as tie
-use Rattle.trim.proofs.work.put_leaf.Reads as reads
-use Rattle.trim.proofs.work.put_leaf.Lts as lts
-use Rattle.trim.proofs.work.put.Reads as put-reads
 
 put-requires : tie.Need-put-requires
 put-requires c κs = search needs
