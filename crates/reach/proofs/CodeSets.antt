@@ -15,7 +15,7 @@ use Rattle.sets.proofs.Members.{has-union, bit, only-fits}
 use Rattle.esterel.specs.Codes.{Codes, none, justEnded, justAt, justCode, join, minusZero, throughTry, hasLow, notBelow, noLowerThan}
 use Rattle.esterel.proofs.Codes.{join-none}
 use Rattle.reach.specs.declared.codes.CodeSet.{CodeSet}
-use Rattle.reach.specs.inner.CodeSets.{placeOf, codesOf, flagOf, followedBy}
+use Rattle.reach.specs.inner.CodeSets.{placeOf, codesOf, followedBy}
 
 abbrev pub words : ℕ → ℕ → CodeSet
 words l k = record { labels = l; codes = k }
@@ -57,20 +57,6 @@ view-code k place p h l = ap (λ (n : ℕ). codesOf (words 0 (1 * 2 ^ n % 2 ^ 64
 pub has-low : (m : ℕ) → eqb (bitAnd m 1) 1 ≡ has m 0
 unfolding has
 has-low m = ap (λ (n : ℕ). eqb n 1) (and-mask m 1)
-
--- and as a number
-pub flag-low : (m : ℕ) → flagOf (has m 0) ≡ m % 2
-unfolding flagOf has
-flag-low m = go (bit m)
-  where
-    go : (m % 2 ≡ 0) ⊎ (m % 2 ≡ 1) → flagOf (eqb (m % 2) 1) ≡ m % 2
-    go (inl e) = rw e
-    go (inr e) = rw e
-
-pub flag-small : (b : Bool) → flagOf b ≤ 1
-unfolding flagOf
-flag-small true = omega arith
-flag-small false = omega arith
 
 -- ---- join, minus 0, through a try
 or-up : (x y : ℕ) → bitOr x y * 4 ≡ bitOr (x * 4) (y * 4)

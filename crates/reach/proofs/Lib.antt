@@ -1,5 +1,4 @@
 pub mod CodeSets
-pub mod Notes
 pub mod Summaries
 pub mod Summing
 pub mod SummedNodes

@@ -12,8 +12,8 @@ use native.Mathlib.Omega.{arith}
 use lib.Bits.{bitAnd, bitXor}
 use lib.Dec.{eqb}
 use Rattle.sets.specs.Set.{has, only, _union_, _intersect_, _minus_, Within}
-use Rattle.sets.proofs.Booleans.{and-cases, and-both, same-bool, differ-eqb, clash}
-use Rattle.sets.proofs.Members.{ext, within-ext, has-union, has-intersect, has-minus, has-only, has-only-equal, has-empty, union-empty, union-assoc, past-width, not-empty, some-member}
+use Rattle.sets.proofs.Booleans.{and-cases, and-both, clash}
+use Rattle.sets.proofs.Members.{ext, within-ext, has-union, has-intersect, has-minus, has-only, has-only-equal, has-empty, union-empty, union-assoc, past-width}
 use Rattle.sets.proofs.Counts.{count, count-width, count-within}
 use Rattle.esterel.specs.Statement.{Statement, nothing, pause, gotopause, emit, exit, signal, present, sequence, parallel, loop, try, pauses}
 use Rattle.esterel.specs.Codes.{Codes, Qualified, ended, at, plain, contains, none, justEnded, join, minusZero, throughTry, s, d}
@@ -27,9 +27,9 @@ use Rattle.table.proofs.Places.{next-within}
 use Rattle.reach.specs.declared.Analysed.the-variants.{Rest}
 use Rattle.reach.specs.declared.summary.Summary.{Summary}
 use Rattle.reach.specs.inner.CodeSets.{codesOf, followedBy}
-use Rattle.reach.specs.inner.Summaries.{resumedFrom, LabelsFrom, EndsAlone, Summarised}
+use Rattle.reach.specs.inner.Summaries.{resumedFrom, LabelsFrom, Summarised}
 use Rattle.reach.specs.inner.Rounds.{Reaches}
-use Rattle.reach.proofs.Summing.{d-followed, d-looped, d-outside}
+use Rattle.reach.proofs.Summing.{d-followed, d-looped}
 
 -- ---- A code of d over R comes from one label of R
 abbrev FromOne : ℕ → (ℕ → Codes) → Qualified → Type 0
@@ -122,36 +122,6 @@ module _ (p : Placed) (found : Summary) (first kept : List ℕ) (h : Summarised 
       complete x k =
           let (l, m, v) = d-single new P (at x) k in
           g .complete l x (label-small l (n l m)) m (ap (λ (K : Codes). has (K .pausing) x) (kept-for l (n l m)) ∙ v)
-
--- ---- Where a statement can end
--- over R, exactly where it can end from a label of R alone
-pub ends-alone : (R E : ℕ) (p : Statement) → R < 2 ^ 64 → EndsAlone E p → not (eqb (bitAnd E R) 0) ≡ d R p .ends
-unfolding contains _intersect_ none
-ends-alone R E p w h = same-bool (not (eqb (bitAnd E R) 0)) (d R p .ends) met alone
-  where
-    not-flip : (z : Bool) → not z ≡ true → z ≡ false
-    not-flip true u = sym u
-    not-flip false u = refl
-
-    met : not (eqb (bitAnd E R) 0) ≡ true → d R p .ends ≡ true
-    met u =
-        let (l, m) = some-member (E intersect R) (differ-eqb (E intersect R) 0 (not-flip (eqb (bitAnd E R) 0) u)) in
-        let (x, y) = and-cases (has E l) (has R l) (sym (has-intersect E R l) ∙ m) in
-        let (_, e) = and-cases (has (pauses p) l) (d (only l) p .ends) (sym (h l (below-width 64 R l w y)) ∙ x) in
-        d-mono (only l) R p (λ z k. subst (λ (i : ℕ). has R i ≡ true) (has-only-equal l z k) y) ended e
-
-    paused : (l : ℕ) → d (only l) p .ends ≡ true → has (pauses p) l ≡ true
-    paused l e = go (has (pauses p) l) refl
-      where
-        go : (z : Bool) → has (pauses p) l ≡ z → z ≡ true
-        go true k = refl
-        go false k = clash e (ap (λ (K : Codes). K .ends) (d-outside l p k))
-
-    alone : d R p .ends ≡ true → not (eqb (bitAnd E R) 0) ≡ true
-    alone u =
-        let (l, m, e) = d-single R p ended u in
-        let x : has E l ≡ true = h l (below-width 64 R l w m) ∙ and-both (has (pauses p) l) (d (only l) p .ends) (paused l e) e in
-        ap not (not-empty (E intersect R) l (has-intersect E R l ∙ and-both (has E l) (has R l) x m))
 
 -- ---- The labels that a round adds
 added-is : (next set : ℕ) → Within set next → bitXor next set ≡ next minus set

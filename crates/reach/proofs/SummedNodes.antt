@@ -51,10 +51,10 @@ module _ {left : ℕ} {nodes : List ℕ} {at : ℕ} (found : Summary) (kept : Li
   at-pause kept′ n o e h = found-here (placed-node n ∙ ap (λ (m : ℕ). placed (pause m) (at + 1)) (sym e)) (sum-pause found kept kept′ o (at + 1) h)
 
 -- ---- One child
-module _ {left : ℕ} {nodes : List ℕ} {at : ℕ} {kept notes endings : List ℕ} (h : Summable left nodes at kept notes endings) where
+module _ {left : ℕ} {nodes : List ℕ} {at : ℕ} {kept : List ℕ} (h : Summable left nodes at kept) where
   -- below it, in so many tries
-  entered : (tries : ℕ) → Valid tries (statementAt (left - 1) nodes (at + 1) .statement) → Summable (left - 1) nodes (at + 1) kept notes endings
-  entered tries v = record { tries = tries; valid = v; all = h .all; known = h .known; room = h .room; notes-are = h .notes-are; endings-are = h .endings-are }
+  entered : (tries : ℕ) → Valid tries (statementAt (left - 1) nodes (at + 1) .statement) → Summable (left - 1) nodes (at + 1) kept
+  entered tries v = record { tries = tries; valid = v; all = h .all; known = h .known; room = h .room }
 
   -- no node is of a kind above 10
   pub never-unknown : (k : ℕ) → 11 ≤ k → Node left nodes at k → ⊥
@@ -65,15 +65,15 @@ module _ {left : ℕ} {nodes : List ℕ} {at : ℕ} {kept notes endings : List �
   unfolding kindOf kinds placeKind Valid
   exit-level n = subst (λ (x : Placed). Valid (h .tries) (x .statement)) (placed-node n) (h .valid) .0
 
-  pub enter-signal : Node left nodes at 5 → Summable (left - 1) nodes (at + 1) kept notes endings
+  pub enter-signal : Node left nodes at 5 → Summable (left - 1) nodes (at + 1) kept
   unfolding kindOf kinds placeKind Valid
   enter-signal n = entered (h .tries) (subst (λ (x : Placed). Valid (h .tries) (x .statement)) (placed-node n) (h .valid) .1)
 
-  pub enter-loop : Node left nodes at 9 → Summable (left - 1) nodes (at + 1) kept notes endings
+  pub enter-loop : Node left nodes at 9 → Summable (left - 1) nodes (at + 1) kept
   unfolding kindOf kinds placeKind Valid
   enter-loop n = entered (h .tries) (subst (λ (x : Placed). Valid (h .tries) (x .statement)) (placed-node n) (h .valid))
 
-  pub enter-try : Node left nodes at 10 → Summable (left - 1) nodes (at + 1) kept notes endings
+  pub enter-try : Node left nodes at 10 → Summable (left - 1) nodes (at + 1) kept
   unfolding kindOf kinds placeKind Valid
   enter-try n = entered (suc (h .tries)) (subst (λ (x : Placed). Valid (h .tries) (x .statement)) (placed-node n) (h .valid))
 
@@ -111,8 +111,8 @@ pub parallel-splits : Splits 8 (λ o. parallel)
 unfolding kindOf kinds placeKind Valid
 parallel-splits = record { places = λ o child at. refl; parts = λ tries o p q v. v }
 
-module _ {k : ℕ} {f : ℕ → Statement → Statement → Statement} (S : Splits k f) {left : ℕ} {nodes : List ℕ} {at : ℕ} (n : Node left nodes at k) {kept notes endings : List ℕ}
-    (h : Summable left nodes at kept notes endings) where
+module _ {k : ℕ} {f : ℕ → Statement → Statement → Statement} (S : Splits k f) {left : ℕ} {nodes : List ℕ} {at : ℕ} (n : Node left nodes at k) {kept : List ℕ}
+    (h : Summable left nodes at kept) where
   abbrev first : Placed
   first = statementAt (left - 1) nodes (at + 1)
 
@@ -125,19 +125,17 @@ module _ {k : ℕ} {f : ℕ → Statement → Statement → Statement} (S : Spli
   held : Valid (h .tries) (first .statement) × Valid (h .tries) (second .statement) × Apart (pauses (first .statement)) (pauses (second .statement))
   held = S .parts (h .tries) (operandOf (getD nodes at 0)) (first .statement) (second .statement) (subst (λ (x : Placed). Valid (h .tries) (x .statement)) here-two (h .valid))
 
-  pub enter-first : Summable (left - 1) nodes (at + 1) kept notes endings
+  pub enter-first : Summable (left - 1) nodes (at + 1) kept
   enter-first = entered h (h .tries) (held .0)
 
   module _ {P : Summary} {one : List ℕ} (g : Summarised first P kept one) where
-    pub enter-second : {notes′ endings′ : List ℕ} → (length notes′ ≡ 1024) × (length endings′ ≡ 1024) → Summable (left - 1) nodes (P .next) one notes′ endings′
-    enter-second (n, e) = record {
+    pub enter-second : Summable (left - 1) nodes (P .next) one
+    enter-second = record {
       tries = h .tries;
       valid = subst (λ (m : ℕ). Valid (h .tries) (statementAt (left - 1) nodes m .statement)) (sym (g .next)) (held .1);
       all = h .all;
       known = h .known;
       room = g .size ∙ h .room;
-      notes-are = n;
-      endings-are = e;
     }
 
     module _ {Q : Summary} {two : List ℕ} (i : Summarised (statementAt (left - 1) nodes (P .next)) Q one two) where
@@ -151,7 +149,7 @@ module _ {k : ℕ} {f : ℕ → Statement → Statement → Statement} (S : Spli
           → Summarised (statementAt left nodes at) found kept two
       at-beside found k c p e = found-here here-two (sum-beside g second-found (held .2) found (f (operandOf (getD nodes at 0))) k c p e)
 
-module _ {left : ℕ} {nodes : List ℕ} {at : ℕ} {kept notes endings : List ℕ} (h : Summable left nodes at kept notes endings) {P : Summary} {one : List ℕ}
+module _ {left : ℕ} {nodes : List ℕ} {at : ℕ} {kept : List ℕ} (h : Summable left nodes at kept) {P : Summary} {one : List ℕ}
     (g : Summarised (statementAt (left - 1) nodes (at + 1)) P kept one) {Q : Summary} {two : List ℕ} (i : Summarised (statementAt (left - 1) nodes (P .next)) Q one two)
     (found : Summary) where
   pub at-present : Node left nodes at 6 → outlineOf found ≡ presentOutline (outlineOf P) (outlineOf Q) → Summarised (statementAt left nodes at) found kept two

@@ -30,7 +30,7 @@ pub d-looped : (R : ℕ) (p : Statement) → d R (loop p) ≡ followedBy (d R p)
 unfolding followedBy followed
 d-looped R p = d-loop R p
 
-s-followed : (p q : Statement) → s (sequence p q) ≡ followedBy (s p) (s q)
+pub s-followed : (p q : Statement) → s (sequence p q) ≡ followedBy (s p) (s q)
 unfolding followedBy followed
 s-followed p q = s-sequence p q
 

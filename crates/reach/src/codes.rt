@@ -26,6 +26,15 @@ fn place_of(code: Code) -> u16
     }
 }
 
+pub fn none() -> CodeSet
+    ensures { λ r. ⌜ codesOf r ≡ set.none ⌝ }
+{
+    CodeSet {
+        labels: 0,
+        codes: 0,
+    }
+}
+
 pub fn just_ended() -> CodeSet
     ensures { λ r. ⌜ codesOf r ≡ set.justEnded ⌝ }
 {

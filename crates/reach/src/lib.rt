@@ -1,7 +1,5 @@
-// Reach: one pass over the nodes for a summary of the statement, then rounds over it until none adds a label. The pass leaves
-// notes at the nodes, for trim.
+// Reach: one pass over the nodes for a summary of the statement, then rounds over it until none adds a label.
 pub mod codes;
-pub mod noted;
 pub mod summary;
 
 use codes::CodeSet;
@@ -11,7 +9,7 @@ ghost use lib.ListN.{length};
 ghost use Rattle.table.specs.Outcomes.{numberOf};
 ghost use Rattle.table.specs.inner.Places.{Known, Loaded};
 ghost use Rattle.reach.specs.Answers.{reachedOutcome, reachOf};
-ghost use Rattle.reach.specs.inner.Rounds.{Settleable, Reaches, Rests};
+ghost use Rattle.reach.specs.inner.Rounds.{Reaches};
 
 // What the rounds come to: the codes of the started statement, R, and the number of rounds.
 pub struct Settled {
@@ -26,18 +24,13 @@ pub enum Analysed {
     Rest(Settled),
 }
 
-// Rounds until one adds no label, with room lent for the summary and the notes. The nodes are passed over once; a round joins
-// what the summary has of the labels that the round before it added.
-fn rounds_with(
-    nodes: &[u16; table::MOST_NODES],
-    kept: &mut [u64; summary::KEPT],
-    notes: &mut [u16; table::MOST_NODES],
-    endings: &mut [u64; table::MOST_NODES],
-) -> Analysed
-    requires { ⌜ Settleable (now nodes) (now notes) (now endings) × (length (now kept) ≡ 128) ⌝ }
-    ensures { λ r. ⌜ Rests (now (nodes .entry)) r (now (notes .exit)) (now (endings .exit)) ⌝ }
+// Rounds until one adds no label, with room lent for the summary. The nodes are passed over once; a round joins what the summary
+// has of the labels that the round before it added.
+fn rounds_with(nodes: &[u16; table::MOST_NODES], kept: &mut [u64; summary::KEPT]) -> Analysed
+    requires { ⌜ Loaded (now nodes) × (length (now kept) ≡ 128) ⌝ }
+    ensures { λ r. ⌜ Reaches (now (nodes .entry)) r ⌝ }
 {
-    let found = summary::summary_at(nodes, 0, table::DEEPEST, kept, notes, endings);
+    let found = summary::summary_at(nodes, 0, table::DEEPEST, kept);
     if found.next == summary::REFUSED {
         return Analysed::Refused;
     }
@@ -57,28 +50,13 @@ fn rounds_with(
     }
 }
 
-// The rounds over the nodes of a statement. Those who walk the nodes with R find at each node with children its note, and the
-// labels from which alone its first child can end.
-pub fn settle(
-    nodes: &[u16; table::MOST_NODES],
-    notes: &mut [u16; table::MOST_NODES],
-    endings: &mut [u64; table::MOST_NODES],
-) -> Analysed
-    requires { ⌜ Settleable (now nodes) (now notes) (now endings) ⌝ }
-    ensures { λ r. ⌜ Rests (now (nodes .entry)) r (now (notes .exit)) (now (endings .exit)) ⌝ }
-{
-    let mut kept = [0u64; summary::KEPT];
-    rounds_with(nodes, &mut kept, notes, endings)
-}
-
-// The rounds alone.
-fn rounds_of(nodes: &[u16; table::MOST_NODES]) -> Analysed
+// The rounds over the nodes of a statement.
+pub fn settle(nodes: &[u16; table::MOST_NODES]) -> Analysed
     requires { ⌜ Loaded (now nodes) ⌝ }
     ensures { λ r. ⌜ Reaches (now (nodes .entry)) r ⌝ }
 {
-    let mut notes = [0u16; table::MOST_NODES];
-    let mut endings = [0u64; table::MOST_NODES];
-    settle(nodes, &mut notes, &mut endings)
+    let mut kept = [0u64; summary::KEPT];
+    rounds_with(nodes, &mut kept)
 }
 
 // Reach's answer.
@@ -118,7 +96,7 @@ fn reach_with(table: &[u8], nodes: &mut [u16; table::MOST_NODES]) -> Reached
     let Checked::Accepted(_) = checked else {
         return Reached::Refused(table::refusal(checked));
     };
-    let analysed = rounds_of(nodes);
+    let analysed = settle(nodes);
     let Analysed::Rest(found) = analysed else {
         return Reached::Refused(table::NO_KIND);
     };

@@ -2,7 +2,6 @@
 // statement resumed from its label alone. The rounds need no more of the nodes.
 use crate::codes;
 use crate::codes::CodeSet;
-use crate::noted;
 use esterel::Label;
 use esterel::Level;
 ghost use mathlib.Core.Path.{_≡_};
@@ -15,7 +14,6 @@ ghost use Rattle.table.specs.inner.Places.{statementAt};
 ghost use Rattle.reach.specs.inner.CodeSets.{codesOf};
 ghost use Rattle.reach.specs.inner.Summaries.{resumedFrom, storedFor, Changed, LoweredEach, LabelsFrom, Follows};
 ghost use Rattle.reach.specs.inner.Summaries.{outline, outlineOf, presentOutline, sequenceOutline, parallelOutline, Summable, Summarised};
-ghost use Rattle.reach.specs.inner.Notes.{NotedChild, LeavesNotes};
 
 // How many labels there are, with 0, which is none.
 const LABELS: usize = 64;
@@ -234,23 +232,6 @@ fn of_try(p: Summary, kept: &mut [u64; KEPT]) -> Summary
     }
 }
 
-// What was found of a node's first child, noted at the node: the place after it, whether it can end where it is started, and
-// the labels from which alone it can end.
-fn note_child(
-    first: Summary,
-    notes: &mut [u16; table::MOST_NODES],
-    endings: &mut [u64; table::MOST_NODES],
-    at: usize,
-) -> Summary
-    requires { ⌜ (at < 1024) × (first .next ≤ 1024) ⌝ }
-    ensures { λ r. ⌜ NotedChild first at r (now (notes .entry)) (now (endings .entry)) (now (notes .exit)) (now (endings .exit)) ⌝ }
-{
-    let start = first.start;
-    notes[at] = noted::open_note(first.next, codes::ends(start));
-    endings[at] = first.ending;
-    first
-}
-
 // The refused outcome, of a node of a kind above 10: a statement's next place is that of its last child, so the place beyond
 // every place spreads to the root by itself. It never comes for the nodes of an accepted table.
 fn refused() -> Summary
@@ -259,19 +240,15 @@ fn refused() -> Summary
     of_nothing(REFUSED)
 }
 
-// The summary of the statement at a place, down to the depth that is left. Each node is looked at once; one with children is
-// noted, for those who walk the nodes later.
+// The summary of the statement at a place, down to the depth that is left. Each node is looked at once.
 pub fn summary_at(
     nodes: &[u16; table::MOST_NODES],
     at: usize,
     left: usize,
     kept: &mut [u64; KEPT],
-    notes: &mut [u16; table::MOST_NODES],
-    endings: &mut [u64; table::MOST_NODES],
 ) -> Summary
-    requires { ⌜ Summable left (now nodes) at (now kept) (now notes) (now endings) ⌝ }
+    requires { ⌜ Summable left (now nodes) at (now kept) ⌝ }
     ensures { λ r. ⌜ Summarised (statementAt left (now (nodes .entry)) at) r (now (kept .entry)) (now (kept .exit)) ⌝ }
-    ensures { λ r. ⌜ LeavesNotes left (now (nodes .entry)) at (now (notes .entry)) (now (endings .entry)) (now (notes .exit)) (now (endings .exit)) ⌝ }
 {
     if left == 0 || table::MOST_NODES <= at {
         return of_nothing(at);
@@ -286,35 +263,33 @@ pub fn summary_at(
         table::GOTOPAUSE => of_gotopause(Label(operand), next),
         table::EMIT => of_nothing(next),
         table::EXIT => of_exit(Level(operand), next),
+        // With a name for what it gives, as in the other arms: the call alone was measured slower on every table.
         table::SIGNAL => {
-            let p = summary_at(nodes, next, below, kept, notes, endings);
-            note_child(p, notes, endings, at)
+            let p = summary_at(nodes, next, below, kept);
+            p
         }
         table::PRESENT => {
-            let p = summary_at(nodes, next, below, kept, notes, endings);
-            let first = note_child(p, notes, endings, at);
-            let q = summary_at(nodes, first.next, below, kept, notes, endings);
-            of_present(first, q)
+            let p = summary_at(nodes, next, below, kept);
+            let q = summary_at(nodes, p.next, below, kept);
+            of_present(p, q)
         }
         table::SEQUENCE => {
-            let p = summary_at(nodes, next, below, kept, notes, endings);
-            let first = note_child(p, notes, endings, at);
-            let q = summary_at(nodes, first.next, below, kept, notes, endings);
-            of_sequence(first, q, kept)
+            let p = summary_at(nodes, next, below, kept);
+            let q = summary_at(nodes, p.next, below, kept);
+            of_sequence(p, q, kept)
         }
         table::PARALLEL => {
-            let p = summary_at(nodes, next, below, kept, notes, endings);
-            let first = note_child(p, notes, endings, at);
-            let q = summary_at(nodes, first.next, below, kept, notes, endings);
-            of_parallel(first, q)
+            let p = summary_at(nodes, next, below, kept);
+            let q = summary_at(nodes, p.next, below, kept);
+            of_parallel(p, q)
         }
         table::LOOP => {
-            let p = summary_at(nodes, next, below, kept, notes, endings);
-            of_loop(note_child(p, notes, endings, at), kept)
+            let p = summary_at(nodes, next, below, kept);
+            of_loop(p, kept)
         }
         table::TRY => {
-            let p = summary_at(nodes, next, below, kept, notes, endings);
-            of_try(note_child(p, notes, endings, at), kept)
+            let p = summary_at(nodes, next, below, kept);
+            of_try(p, kept)
         }
         11..=15 => refused(),
         _ => refused(),

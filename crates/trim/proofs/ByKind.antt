@@ -1,7 +1,7 @@
 -- Trimming at a node, kind by kind: the law of the kind, its nodes, and what the last step wrote.
 use mathlib.Core.Path.{_≡_, refl, sym, ap, ap₂, _∙_, subst}
 use mathlib.Core.Logic.{_⊎_}
-use mathlib.Core.Bool.{Bool, true, false, cond, _||_}
+use mathlib.Core.Bool.{Bool, true, false, cond, not, _||_}
 use mathlib.Core.List.{List, [], _∷_}
 use Prim.Native.Nat.{ℕ, zero, suc, _+_, _-_, _%_, _^_, _≤_, _<_, zero-le}
 use native.Mathlib.Nat.{mod-lt}
@@ -12,13 +12,13 @@ use lib.Dec.{eqb}
 use lib.ListN.{length, getD, length-set}
 use lib.Seq.{getD-set-same}
 use Rattle.sets.specs.Set.{has, only}
-use Rattle.sets.proofs.Booleans.{or-left, or-right, clash}
+use Rattle.sets.proofs.Booleans.{or-left, or-right, or-neither, or-false, not-true, clash}
 use Rattle.sets.proofs.Members.{has-empty}
-use Rattle.esterel.specs.Statement.{Statement, nothing, pause, gotopause, emit, exit, signal, present, sequence, parallel, loop, try, depth, Valid}
+use Rattle.esterel.specs.Statement.{Statement, nothing, pause, gotopause, emit, exit, signal, present, sequence, parallel, loop, try, pauses, depth, Valid}
 use Rattle.esterel.specs.Trimming.{isNothing, names, joinParts, canEnd, trimSignal, trim, endsAt}
 use Rattle.table.specs.Kinds.{kinds, kindOf, rowOf}
 use Rattle.table.specs.Reading.{operandOf}
-use Rattle.table.specs.inner.Places.{Placed, placeKind, statementAt}
+use Rattle.table.specs.inner.Places.{Placed, placed, placeKind, statementAt}
 use Rattle.table.specs.Writing.{nodes, node}
 use Rattle.trim.specs.declared.descent.Around.{Around}
 use Rattle.trim.specs.declared.work.Part.{Part}
@@ -26,16 +26,21 @@ use Rattle.trim.specs.inner.Levels.{levelOut, trimmedIn, startedIf, inGu
 use Rattle.trim.specs.inner.Parts.{nothingAt, Fitting, Leaf, ExitReady, LeafPut, Wrapped, PartsJoined, branchIf, presentIf, ElseClosed, PresentClosed, Caught, Trimmable, Done}
 use Rattle.trim.proofs.Parts.{has-signal, joins-sequence}
 use Rattle.trim.proofs.Trimming.{places-same, places-low, trimmed-pause, trimmed-gotopause, trimmed-emit, trimmed-exit, trimmed-signal, trimmed-sequence, trimmed-parallel, trimmed-loop, trimmed-present, trimmed-resumed, trimmed-try}
-use Rattle.reach.specs.inner.Notes.{secondOf, endsOf, keptOf}
+use Rattle.trim.specs.inner.Notes.{live, liveOf, secondOf, endsOf, keptOf}
 use Rattle.table.proofs.Places.{Node, placed-node, placed-none}
 use Rattle.trim.proofs.Walk.{next-after}
+use Rattle.trim.proofs.Notes.{noted-node, note-live}
+use Rattle.trim.proofs.Live.{not-false, live-none, live-pause}
 use Rattle.trim.proofs.Leaving.{ends-signal, ends-sequence, ends-parallel, ends-loop, ends-try, ends-branches}
-use Rattle.trim.proofs.Steps.{NotedOne, NotedTwo, note-ends, note-place, note-kept, one-signal, one-loop, one-try, two-present, two-sequence, two-parallel, trimmed-none, trimmed-leaf, trimmed-one, trimmed-two, trimmed-branches}
+use Rattle.trim.proofs.Steps.{NotedOne, NotedTwo, note-ends, note-place, note-kept, one-signal, one-loop, one-try, two-present, two-sequence, two-parallel, trimmed-none, trimmed-dead, trimmed-leaf, trimmed-one, trimmed-two, trimmed-branches}
 use Rattle.trim.proofs.Steps.{one-ready, second-ready, join-ready, join-room, else-room, branch-ready, present-room}
 
 module _ {R : ℕ} {xs notes : List ℕ} {at left : ℕ} {a : Around} {places work : List ℕ} {to : ℕ} (N : Trimmable R xs notes at left a places work to) where
   abbrev operand : ℕ
   operand = operandOf (getD xs at 0)
+
+  abbrev first : Placed
+  first = statementAt (left - 1) xs (at + 1)
 
   abbrev Got : Part → List ℕ → List ℕ → Type 0
   Got r places′ work′ = Done R (statementAt left xs at) at left a places work to r places′ work′
@@ -48,6 +53,23 @@ module _ {R : ℕ} {xs notes : List ℕ} {at left : ℕ} {a : Around} {places wo
   pub at-nothing : Node left xs at 0 → Got (nothingAt to) places work
   unfolding placeKind kindOf kinds
   at-nothing n = rw (placed-node n) (trimmed-none R at left a places work to (at + 1) (omega arith))
+
+  -- the test before the decision: what may be left, by the note
+  note-says : {k : ℕ} → Node left xs at k → liveOf (getD notes at 0) ≡ live R (statementAt left xs at .statement)
+  note-says {k} n = ap liveOf (noted-node R notes n (N .noted) .0) ∙ note-live R k (statementAt left xs at .statement) first
+
+  pub at-dead : {k : ℕ} → Node left xs at k → {z : Bool} → z ≡ (a .started || liveOf (getD notes at 0)) → not z ≡ true → Got (nothingAt to) places work
+  at-dead n {z} e h =
+      let m = or-neither (a .started) (liveOf (getD notes at 0)) (sym e ∙ not-true z (λ y. clash h (ap not y))) in
+      let s = next-after n in
+      trimmed-dead R at left a places work to (statementAt left xs at) (omega arith) (m .0) (sym (note-says n) ∙ m .1)
+
+  -- past it, a statement is started or live
+  abbrev pub Stays : Type 0
+  Stays = (a .started || live R (statementAt left xs at .statement)) ≡ true
+
+  pub stays-here : {k : ℕ} → Node left xs at k → {z : Bool} → z ≡ (a .started || liveOf (getD notes at 0)) → not z ≡ false → Stays
+  stays-here n {z} e h = ap (λ (y : Bool). a .started || y) (sym (note-says n)) ∙ sym e ∙ not-false z h
 
   pub leaf-room : {k : ℕ} → Node left xs at k → (1 ≤ to) × (to ≤ 4096)
   leaf-room n = (let r = N .room in let s = next-after n in omega arith, N .to-in)
@@ -81,27 +103,32 @@ module _ {R : ℕ} {xs notes : List ℕ} {at left : ℕ} {a : Around} {places wo
       → Leaf t (node k operand) named
   leaf k named n s d h = record { nodes-are = n; some = s; deep = d; names-are = h }
 
-  pub at-pause : Node left xs at 1 → {o : ℕ} → o ≡ operand → {keep : Bool} {r : Part} {work′ : List ℕ} → keep ≡ (a .started || has R o)
-      → LeafPut (node 1 o) 0 keep work to r work′ → Got r places work′
-  unfolding placeKind kindOf kinds nodes isNothing depth names
-  at-pause n e {keep} {r} {work′} k P =
-      let kept : keep ≡ (a .started || has R operand) = k ∙ ap (λ (l : ℕ). a .started || has R l) e in
-      rw (placed-node n) (trimmed-leaf R at left a places work to (pause operand) (pause operand) (node 1 operand) 0 keep r work′ (n .some)
-      (trimmed-pause R places a operand ∙ ap (λ (z : Bool). cond z (pause operand) nothing) (sym kept)) (leaf 1 0 refl refl refl has-empty) (rw e at P))
+  -- without a pause it is started
+  started-here : (t : Statement) (n : ℕ) → statementAt left xs at ≡ placed t n → pauses t ≡ 0 → Stays → a .started ≡ true
+  started-here t n e z h = sym (or-false (a .started)) ∙ ap (λ (y : Bool). a .started || y) (sym (ap (λ (p : Placed). live R (p .statement)) e ∙ live-none R t z)) ∙ h
 
-  pub at-gotopause : Node left xs at 2 → {o : ℕ} → o ≡ operand → {r : Part} {work′ : List ℕ} → LeafPut (node 2 o) 0 (a .started) work to r work′ → Got r places work′
+  pub at-pause : Node left xs at 1 → Stays → {o : ℕ} → o ≡ operand → {r : Part} {work′ : List ℕ} → LeafPut (node 1 o) 0 work to r work′ → Got r places work′
   unfolding placeKind kindOf kinds nodes isNothing depth names
-  at-gotopause n e {r} {work′} P =
-      rw (placed-node n) (trimmed-leaf R at left a places work to (gotopause operand) (gotopause operand) (node 2 operand) 0 (a .started) r work′ (n .some)
-      (trimmed-gotopause R places a operand) (leaf 2 0 refl refl refl has-empty) (rw e at P))
+  at-pause n h e {r} {work′} P =
+      let kept : (a .started || has R operand) ≡ true = ap (λ (y : Bool). a .started || y) (sym (ap (λ (p : Placed). live R (p .statement)) (placed-node n) ∙ live-pause R operand)) ∙ h in
+      rw (placed-node n) (trimmed-leaf R at left a places work to (pause operand) (pause operand) (node 1 operand) 0 r work′ (n .some)
+      (trimmed-pause R places a operand ∙ ap (λ (z : Bool). cond z (pause operand) nothing) kept) (leaf 1 0 refl refl refl has-empty) (rw e at P))
 
-  pub at-emit : Node left xs at 3 → {o : ℕ} → o ≡ operand → {own : ℕ} {r : Part} {work′ : List ℕ} → own ≡ only o % 2 ^ 64
-      → LeafPut (node 3 o) own (a .started) work to r work′ → Got r places work′
-  unfolding placeKind kindOf kinds nodes isNothing depth names
-  at-emit n e {own} {r} {work′} k P =
+  pub at-gotopause : Node left xs at 2 → Stays → {o : ℕ} → o ≡ operand → {r : Part} {work′ : List ℕ} → LeafPut (node 2 o) 0 work to r work′ → Got r places work′
+  unfolding placeKind kindOf kinds nodes isNothing depth names pauses
+  at-gotopause n h e {r} {work′} P =
+      rw (placed-node n) (trimmed-leaf R at left a places work to (gotopause operand) (gotopause operand) (node 2 operand) 0 r work′ (n .some)
+      (trimmed-gotopause R places a operand ∙ ap (λ (z : Bool). cond z (gotopause operand) nothing) (started-here (gotopause operand) (at + 1) (placed-node n) refl h))
+      (leaf 2 0 refl refl refl has-empty) (rw e at P))
+
+  pub at-emit : Node left xs at 3 → Stays → {o : ℕ} → o ≡ operand → {own : ℕ} {r : Part} {work′ : List ℕ} → own ≡ only o % 2 ^ 64
+      → LeafPut (node 3 o) own work to r work′ → Got r places work′
+  unfolding placeKind kindOf kinds nodes isNothing depth names pauses
+  at-emit n h e {own} {r} {work′} k P =
       let named = has-signal operand own (mod-lt (getD xs at 0) (omega arith)) (k ∙ ap (λ (l : ℕ). only l % 2 ^ 64) e) in
-      rw (placed-node n) (trimmed-leaf R at left a places work to (emit operand) (emit operand) (node 3 operand) own (a .started) r work′ (n .some)
-      (trimmed-emit R places a operand) (leaf 3 own refl refl refl named) (rw e at P))
+      rw (placed-node n) (trimmed-leaf R at left a places work to (emit operand) (emit operand) (node 3 operand) own r work′ (n .some)
+      (trimmed-emit R places a operand ∙ ap (λ (z : Bool). cond z (emit operand) nothing) (started-here (emit operand) (at + 1) (placed-node n) refl h))
+      (leaf 3 own refl refl refl named) (rw e at P))
 
   -- ---- an exit: what is left of it has a level from 1 to 63
 
@@ -130,25 +157,26 @@ module _ {R : ℕ} {xs notes : List ℕ} {at left : ℕ} {a : Around} {places wo
   unfolding levelOut
   exit-most = let k = N .kept-in in omega arith
 
-  module _ (n : Node left xs at 4) {o : ℕ} (e : o ≡ operand) (l : ℕ) (f : l ≡ levelOut places a o) where
+  module _ (n : Node left xs at 4) (stays : Stays) {o : ℕ} (e : o ≡ operand) (l : ℕ) (f : l ≡ levelOut places a o) where
     out : l ≡ levelOut places a operand
     out = f ∙ ap (levelOut places a) e
 
-    pub level-fits : a .started ≡ true → Fitting 4 l
-    unfolding kindOf kinds rowOf
-    level-fits h = rw out (record { kind-in = omega arith; least = exit-caught n h; most = exit-most })
+    started-exit : a .started ≡ true
+    unfolding placeKind kindOf kinds pauses
+    started-exit = started-here (exit operand) (at + 1) (placed-node n) refl stays
 
-    pub at-exit : {r : Part} {work′ : List ℕ} → LeafPut (node 4 l) 0 (a .started) work to r work′ → Got r places work′
+    pub level-fits : Fitting 4 l
+    unfolding kindOf kinds rowOf
+    level-fits = rw out (record { kind-in = omega arith; least = exit-caught n started-exit; most = exit-most })
+
+    pub at-exit : {r : Part} {work′ : List ℕ} → LeafPut (node 4 l) 0 work to r work′ → Got r places work′
     unfolding placeKind kindOf kinds nodes isNothing depth names
     at-exit {r} {work′} P =
-        rw (placed-node n) (trimmed-leaf R at left a places work to (exit operand) (exit l) (node 4 l) 0 (a .started) r work′ (n .some)
-        (trimmed-exit R places a operand (exit-level n .0) ∙ ap (λ (m : ℕ). cond (a .started) (exit m) nothing) (sym out))
+        rw (placed-node n) (trimmed-leaf R at left a places work to (exit operand) (exit l) (node 4 l) 0 r work′ (n .some)
+        (trimmed-exit R places a operand (exit-level n .0) ∙ ap₂ (λ (z : Bool) (m : ℕ). cond z (exit m) nothing) started-exit (sym out))
         (record { nodes-are = refl; some = refl; deep = refl; names-are = has-empty }) P)
 
   -- ---- one child
-
-  abbrev first : Placed
-  first = statementAt (left - 1) xs (at + 1)
 
   pub the-signal : Node left xs at 5 → NotedOne R xs notes at left 5 (signal operand) (a .tries)
   the-signal n = one-signal R xs notes at left (a .tries) (N .valid) (N .noted) n

@@ -3,11 +3,11 @@
 use mathlib.Core.Path.{_≡_, refl, sym, ap, ap₂, _∙_}
 use mathlib.Core.Bool.{Bool, true, false, cond}
 use Prim.Native.Nat.{ℕ, pred}
-use Rattle.sets.specs.Set.{has, _union_}
+use Rattle.sets.specs.Set.{has}
 use Rattle.sets.proofs.Booleans.{clash, not-true}
 use Rattle.esterel.specs.Statement.{Statement, nothing, pause, gotopause, emit, exit, signal, present, sequence, parallel, loop, try}
 use Rattle.esterel.specs.Codes.{Codes, none, justEnded, join, minusZero, throughTry, s, d}
-use Rattle.esterel.proofs.Codes.{none-through}
+use Rattle.esterel.proofs.Codes.{none-through, join-none}
 use Rattle.esterel.proofs.Trimming.{is-nothing, by-join, by-signal, by-present, by-try}
 use Rattle.esterel.specs.Trimming.{isNothing, joinParts, shiftExits, canEnd, trimLoop, trimSignal, trimPresent, trimTry, trim}
 
@@ -38,12 +38,6 @@ shift-nothing f c (sequence p q) = refl
 shift-nothing f c (parallel p q) = refl
 shift-nothing f c (loop p) = refl
 shift-nothing f c (try p) = refl
-
--- ---- no code from no codes
-
-join-none : join none none ≡ none
-unfolding join none _union_
-join-none = refl
 
 -- ---- which statements are nothing
 
@@ -90,15 +84,15 @@ module _ (R : ℕ) where
   nothing-none (signal S p) h = nothing-none p (signal-nothing S (trim R false p) h)
   nothing-none (present S p q) h =
       let both = present-nothing (d R p .ends) (trim R false p) (trim R false q) h in
-      ap₂ join (nothing-none p (both .0)) (nothing-none q (both .1)) ∙ join-none
+      ap₂ join (nothing-none p (both .0)) (nothing-none q (both .1)) ∙ join-none none
   nothing-none (sequence p q) h =
       let both = join-nothing sequence (λ x y. refl) (trim R false p) (trim R (canEnd R false p) q) h in
       let e : d R p ≡ none = nothing-none p (both .0) in
       let g : d R q ≡ none = nothing-none q (after p q e (both .1)) in
-      ap₂ (λ (K J : Codes). cond (K .ends) (join (join (minusZero K) (s q)) J) (join K J)) e g ∙ join-none
+      ap₂ (λ (K J : Codes). cond (K .ends) (join (join (minusZero K) (s q)) J) (join K J)) e g ∙ join-none none
   nothing-none (parallel p q) h =
       let both = join-nothing parallel (λ x y. refl) (trim R false p) (trim R false q) h in
-      ap₂ join (nothing-none p (both .0)) (nothing-none q (both .1)) ∙ join-none
+      ap₂ join (nothing-none p (both .0)) (nothing-none q (both .1)) ∙ join-none none
   nothing-none (loop p) h = go (d R p .ends) (nothing-none p) h
     where
       go : (z : Bool) → (isNothing (trim R false p) ≡ true → d R p ≡ none) → isNothing (trimLoop z false (λ c. trim R c p)) ≡ true

@@ -1,5 +1,6 @@
 pub mod Levels
 pub mod Dropped
+pub mod Live
 pub mod Trimming
 pub mod Parts
 pub mod Walk

@@ -185,21 +185,18 @@ puts-put : (l before work work′ : List ℕ) (to from x f : ℕ) → 1 ≤ from
     → Puts (x ∷ l) before to f work′
 puts-put l before work work′ to from x f h w p e = subst₂ (λ (n : ℕ) (m : List ℕ). Puts (x ∷ l) before to n m) (sym (e .0)) (sym (e .1)) (puts-more l before work to from x h w p)
 
-pub leaf-put : (x named : ℕ) (keep : Bool) (work : List ℕ) (to f : ℕ) (work′ : List ℕ) → keep ≡ true → 1 ≤ to → to ≤ 4096 → PutAt work to x f work′
-    → LeafPut x named keep work to (record { from = f; depth = 1; named = named }) work′
-leaf-put x named keep work to f work′ k h w e =
+pub leaf-put : (x named : ℕ) (work : List ℕ) (to f : ℕ) (work′ : List ℕ) → 1 ≤ to → to ≤ 4096 → PutAt work to x f work′
+    → LeafPut x named work to (record { from = f; depth = 1; named = named }) work′
+leaf-put x named work to f work′ h w e =
     record {
-      made = λ t L. rw k (whole-made t work to (record { from = f; depth = 1; named = named }) work′ (L .some) (record {
+      made = λ t L. whole-made t work to (record { from = f; depth = 1; named = named }) work′ (L .some) (record {
         puts = subst (λ (l : List ℕ). Puts l work to f work′) (sym (L .nodes-are)) (puts-put [] work work work′ to to x f h w (puts-none work to) e);
         depth-is = sym (L .deep);
         names-are = L .names-are;
-      }));
+      });
       near = omega (arith, e .0);
       shallow = omega arith;
     }
-
-pub leaf-none : (x named : ℕ) (keep : Bool) (work : List ℕ) (to : ℕ) → keep ≡ false → LeafPut x named keep work to (nothingAt to) work
-leaf-none x named keep work to k = record { made = λ t L. rw k (made-nothing work to); near = omega arith; shallow = omega arith }
 
 -- ---- nothing filled in
 

@@ -1,4 +1,4 @@
--- The whole statement: what reach and marking leave is what trimming asks, no exit leaves the root, and the answer goes by
+-- The whole statement: what marking leaves is what trimming asks, no exit leaves the root, and the answer goes by
 -- the nodes that stand at the end of the work area.
 use mathlib.Core.Path.{_≡_, sym, ap, ap₂, _∙_, subst}
 use mathlib.Core.Bool.{Bool, true, false, cond, _||_}
@@ -6,18 +6,17 @@ use mathlib.Core.List.{List, [], _∷_, _++_, append-nil}
 use Prim.Native.Nat.{ℕ, _+_, _-_, _≤_, _<_, zero-le}
 use native.Mathlib.Omega.{arith}
 use borrow.Author.Tests.{lt-ltb, le-ltb}
-use lib.Dec.{ltb}
-use lib.ListN.{length, getD, take, drop, replicate, length-replicate, length-append, length-drop}
+use lib.Dec.{eqb, ltb}
+use lib.ListN.{length, take, drop, replicate, length-replicate, length-append, length-drop}
 use lib.Seq.{drop-at, drop-drop, drop-length, length-take-le, take-all}
 use Rattle.sets.specs.Set.{has}
-use Rattle.sets.proofs.Booleans.{or-left, or-right}
+use Rattle.sets.proofs.Booleans.{or-left, or-right, eqb-differ}
 use Rattle.esterel.specs.Statement.{Statement, size, depth, Valid}
-use Rattle.esterel.specs.Reachability.{reach}
-use Rattle.esterel.specs.Trimming.{isNothing, endsAt, trim, trimmed}
+use Rattle.esterel.specs.Trimming.{isNothing, trimmed}
 use Rattle.esterel.proofs.Validity.{valid-trimmed, size-trimmed}
 use Rattle.table.specs.Outcomes.{refusal, values}
 use Rattle.table.specs.Reading.{lengthOf, deepest}
-use Rattle.table.specs.inner.Places.{statementAt, statementOf, Known, Loaded}
+use Rattle.table.specs.inner.Places.{statementAt, statementOf, Loaded}
 use Rattle.table.specs.Writing.{nodes, writeNodes, write}
 use Rattle.table.specs.inner.Making.{Writable}
 use Rattle.table.proofs.Nodes.{length-nodes}
@@ -25,19 +24,20 @@ use Rattle.table.proofs.Fields.{length-writeNodes}
 use Rattle.reach.specs.declared.Settled.{Settled}
 use Rattle.reach.specs.declared.Analysed.{Analysed}
 use Rattle.reach.specs.declared.Analysed.the-variants.{Rest}
-use Rattle.reach.specs.inner.Rounds.{Settleable, Rests}
+use Rattle.reach.specs.inner.Rounds.{Reaches}
 use Rattle.reach.proofs.Answers.{rest-same}
 use Rattle.trim.specs.declared.descent.Around.{Around}
-use Rattle.trim.specs.declared.marks.Exits.{Exits}
+use Rattle.trim.specs.declared.marks.Marked.{Marked}
 use Rattle.trim.specs.declared.work.Part.{Part}
 use Rattle.trim.specs.declared.Trimmed.the-variants.{Refused, Accepted}
 use Rattle.trim.specs.inner.Levels.{levelOut, trimmedIn}
-use Rattle.trim.specs.inner.Marking.{Marks}
-use Rattle.trim.specs.inner.Parts.{part, PartStands, NothingFilled, Trimmable, Done}
+use Rattle.trim.specs.inner.Notes.{Noted}
+use Rattle.trim.specs.inner.Marking.{Markable, Marks}
+use Rattle.trim.specs.inner.Parts.{part, PartStands, NothingFilled, reachSetOf, Trimmable, Done}
 use Rattle.trim.specs.Answers.{trimmedOutcome, trimFor, bufferAfter}
 use Rattle.trim.specs.inner.Root.{Lent, Ends, EndFits, Finished}
 use Rattle.trim.proofs.Levels.{map-closed}
-use Rattle.trim.proofs.Refused.{no-exit, no-name, no-level}
+use Rattle.trim.proofs.Refused.{no-name}
 
 part-size : (t : Statement) → length (part t) ≤ size t
 unfolding part
@@ -56,61 +56,54 @@ all-places n m work e = (replicate n 0 ++ work, length-append (replicate n 0) wo
 
 -- ---- trimming the root
 
-pub root-settles : {xs notes endings places work : List ℕ} → Loaded xs → Lent notes endings places work → Settleable xs notes endings
-root-settles L l = record { loaded = L; notes-are = l .notes-are; endings-are = l .endings-are }
-
--- the rounds over the nodes have come to rest: there are notes, and room for marking and trimming
-pub record AtRest (xs places work notes endings : List ℕ) (found : Settled) : Type 0 where
+-- the rounds over the nodes have come to rest, and there is room for marking and trimming
+pub record AtRest (xs notes places work : List ℕ) (found : Settled) : Type 0 where
   pub loaded : Loaded xs
-  pub places-are : length places ≡ 64
-  pub outermost : getD places 0 0 ≡ 0
-  pub work-is : length work ≡ 1024
+  pub lent : Lent notes places work
   pub answer : Analysed
-  pub rests : Rests xs answer notes endings
+  pub reaches : Reaches xs answer
   pub is : answer ≡ Rest found
 
-module _ {xs places work notes endings : List ℕ} {found : Settled} (A : AtRest xs places work notes endings found) where
+module _ {xs notes places work : List ℕ} {found : Settled} (A : AtRest xs notes places work found) where
   abbrev R : ℕ
-  R = found .set
+  R = reachSetOf xs
 
   abbrev result : Statement
   result = trimmed (statementOf xs)
 
-  reached : R ≡ reach (statementOf xs) .set
-  reached = ap (λ (f : Settled). f .set) (rest-same (sym (A .is) ∙ A .rests .reaches .rest)) ∙ A .rests .reaches .set
+  reached : found .set ≡ R
+  unfolding reachSetOf
+  reached = ap (λ (f : Settled). f .set) (rest-same (sym (A .is) ∙ A .reaches .rest)) ∙ A .reaches .set
 
   valid : Valid 0 result
   valid = valid-trimmed (statementOf xs) (A .loaded .shallow) (A .loaded .valid)
 
   -- no exit leaves the root, so its levels are those of the trimmed statement
   root-is : trimmedIn R places root (statementOf xs) ≡ result
-  unfolding trimmedIn trimmed
-  root-is = ap (λ (r : ℕ). trimmedIn r places root (statementOf xs)) reached ∙ map-closed (levelOut places root) 0 result valid
+  unfolding trimmedIn trimmed reachSetOf
+  root-is = map-closed (levelOut places root) 0 result valid
 
-  pub root-markable : (length xs ≡ 1024) × (length notes ≡ 1024) × Known xs
-  root-markable = (A .loaded .all, A .rests .size, A .loaded .known)
+  pub root-markable : Markable 60 xs 0 notes
+  root-markable = record { tries = 0; valid = A .loaded .valid; all = A .loaded .all; known = A .loaded .known; room = A .lent .notes-are }
 
-  module _ {e : Exits} {notes′ : List ℕ} (M : Marks R xs endings 60 0 notes e notes′) where
+  module _ {m : Marked} {notes′ : List ℕ} (M : Marks (found .set) xs 60 0 notes m notes′) where
     -- marking met no node of no kind
-    pub root-marked : ltb 1 (e .started) ≡ false
-    unfolding trimmed
-    root-marked =
-        no-level (e .started) (λ d.
-        M .marked (A .rests .noted) .leaving .started d ∙ ap (λ (r : ℕ). endsAt d (trim r true (statementOf xs))) reached ∙ no-exit 0 d result valid (omega arith))
+    pub root-marked : eqb (m .next) 1025 ≡ false
+    root-marked = eqb-differ (m .next) 1025 (λ z. omega (arith, M .finds .next, A .loaded .next-is, A .loaded .few))
 
     pub root-trimmable : Trimmable R xs notes′ 0 60 root places work 4096
     root-trimmable =
         record {
           valid = A .loaded .valid;
-          noted = M .marked (A .rests .noted) .noted;
+          noted = subst (λ (r : ℕ). Noted r notes′ xs 60 0) reached (M .noted);
           all = A .loaded .all;
           known = A .loaded .known;
           room = omega (arith, A .loaded .next-is, A .loaded .few);
           to-in = omega arith;
           tries-in = omega arith;
           kept-in = omega arith;
-          wide = A .places-are;
-          low = λ i h. let e : i ≡ 0 = omega arith in rw e (omega (arith, A .outermost));
+          wide = A .lent .places-are;
+          low = λ i h. let e : i ≡ 0 = omega arith in rw e (omega (arith, A .lent .outermost));
           caught = λ d h x. absurd (omega arith);
         }
 
@@ -131,7 +124,7 @@ module _ {xs places work notes endings : List ℕ} {found : Settled} (A : AtRest
 
     pub root-ends : {v : Part} {work₂ : List ℕ} → NothingFilled work₁ 4096 p v work₂ → Ends result v work₂
     root-ends {v} {work₂} F =
-        let (all, long, is) = all-places 3072 1024 work (A .work-is) in
+        let (all, long, is) = all-places 3072 1024 work (A .lent .work-is) in
         let W = F .made result work (omega arith) made in
         let e = W .puts .from-is in
         let t : length (take (v .from) all) ≡ v .from = length-take-le (v .from) all (omega arith) in

@@ -15,15 +15,14 @@ use Rattle.table.specs.Reading.{operandOf}
 use Rattle.table.specs.inner.Places.{Placed, placed, placeKind, statementAt}
 use Rattle.trim.specs.declared.descent.Around.{Around}
 use Rattle.trim.specs.declared.work.Part.{Part}
-use Rattle.trim.specs.inner.Levels.{trimmedIn, wrapIf}
-use Rattle.reach.specs.inner.Notes.{Noted, noteOf, secondOf, endsOf, keptOf}
+use Rattle.trim.specs.inner.Levels.{mapExits, levelOut, trimmedIn, wrapIf}
+use Rattle.trim.specs.inner.Notes.{live, Noted, secondOf, endsOf, keptOf, childNote, noteFor}
 use Rattle.table.proofs.Places.{Node, placed-node, next-forward}
-use Rattle.reach.proofs.Notes.{noted-node, second-note, ends-note}
-use Rattle.trim.specs.inner.Notes.{trimNote, TrimNote}
 use Rattle.trim.specs.inner.Parts.{PartStands, nothingAt, Leaf, Wraps, Joins, LeafPut, Wrapped, PartsJoined, Branch, branchIf, presentIf, ElseClosed, PresentClosed, Caught, Trimmable, Done}
+use Rattle.trim.proofs.Live.{dead-nothing}
 use Rattle.trim.proofs.Parts.{made-nothing}
 use Rattle.trim.proofs.Trimming.{LowPlaces, trimmed-places, trimmed-nothing}
-use Rattle.trim.proofs.Notes.{try-kept}
+use Rattle.trim.proofs.Notes.{noted-node, second-note, ends-note, try-kept}
 
 -- ---- a node and its children
 
@@ -34,74 +33,80 @@ module _ (R : ℕ) (xs notes : List ℕ) (at left : ℕ) where
   abbrev second : Placed
   second = statementAt (left - 1) xs (first .next)
 
+  -- the note of a node with children
+  abbrev ParentNote : ℕ → Type 0
+  ParentNote k = (eqb (rowOf (kindOf k) .children) 0 ≡ false) × (getD notes at 0 ≡ noteFor R k (statementAt left xs at .statement) first)
+
   -- a node of kind k with one child, which stands in `inside` try statements
   pub record NotedOne (k : ℕ) (f : Statement → Statement) (inside : ℕ) : Type 0 where
     pub is : statementAt left xs at ≡ placed (f (first .statement)) (first .next)
     pub valid : Valid inside (first .statement)
-    pub noted : Noted (TrimNote R notes) xs (left - 1) (at + 1)
-    pub note-is : getD notes at 0 ≡ trimNote R k first
+    pub noted : Noted R notes xs (left - 1) (at + 1)
+    pub note-is : ParentNote k
 
   pub record NotedTwo (k : ℕ) (f : Statement → Statement → Statement) (inside : ℕ) : Type 0 where
     pub is : statementAt left xs at ≡ placed (f (first .statement) (second .statement)) (second .next)
     pub valid : Valid inside (first .statement)
     pub valid-second : Valid inside (second .statement)
-    pub noted : Noted (TrimNote R notes) xs (left - 1) (at + 1)
-    pub noted-second : Noted (TrimNote R notes) xs (left - 1) (first .next)
-    pub note-is : getD notes at 0 ≡ trimNote R k first
+    pub noted : Noted R notes xs (left - 1) (at + 1)
+    pub noted-second : Noted R notes xs (left - 1) (first .next)
+    pub note-is : ParentNote k
 
   -- what the note says
-  module _ (k : ℕ) (plain : eqb k 10 ≡ false) (h : getD notes at 0 ≡ trimNote R k first) where
-    note-plain : getD notes at 0 ≡ noteOf R first
-    unfolding trimNote
-    note-plain = h ∙ rw plain
+  module _ (k : ℕ) (plain : eqb k 10 ≡ false) (h : ParentNote k) where
+    note-plain : getD notes at 0 ≡ childNote R (statementAt left xs at .statement) first
+    unfolding noteFor
+    note-plain = h .1 ∙ rw (h .0, plain)
 
     pub note-ends : (b : Bool) → endsOf (getD notes at 0) b ≡ canEnd R b (first .statement)
-    note-ends b = ap (λ (n : ℕ). endsOf n b) note-plain ∙ ends-note R b first
+    note-ends b = ap (λ (n : ℕ). endsOf n b) note-plain ∙ ends-note R b (statementAt left xs at .statement) first
 
     pub note-place : secondOf (getD notes at 0) ≡ first .next
-    note-place = ap secondOf note-plain ∙ second-note R first
+    note-place = ap secondOf note-plain ∙ second-note R (statementAt left xs at .statement) first
 
   pub note-kept : {inside : ℕ} → NotedOne 10 try inside → (b : Bool) → keptOf (getD notes at 0) b ≡ endsAt 0 (trim R b (first .statement))
-  unfolding trimNote
-  note-kept o b = ap (λ (n : ℕ). keptOf n b) (o .note-is) ∙ try-kept R first b
+  unfolding noteFor
+  note-kept o b = ap (λ (n : ℕ). keptOf n b) (o .note-is .1 ∙ rw (o .note-is .0)) ∙ try-kept R b (statementAt left xs at .statement) first
 
-  module _ (tries : ℕ) (v : Valid tries (statementAt left xs at .statement)) (h : Noted (TrimNote R notes) xs left at) where
+  module _ (tries : ℕ) (v : Valid tries (statementAt left xs at .statement)) (h : Noted R notes xs left at) where
     one-node : (k : ℕ) (f : Statement → Statement) (inside : ℕ)
         → statementAt left xs at ≡ placed (f (first .statement)) (first .next) → (Valid tries (f (first .statement)) → Valid inside (first .statement))
-        → (getD notes at 0 ≡ trimNote R k first) × Noted (TrimNote R notes) xs (left - 1) (at + 1) → NotedOne k f inside
-    one-node k f inside e g ns = record { is = e; valid = g (subst (λ (p : Placed). Valid tries (p .statement)) e v); noted = ns .1; note-is = ns .0 }
+        → eqb (rowOf (kindOf k) .children) 0 ≡ false
+        → (getD notes at 0 ≡ noteFor R k (statementAt left xs at .statement) first) × Noted R notes xs (left - 1) (at + 1) → NotedOne k f inside
+    one-node k f inside e g c ns = record { is = e; valid = g (subst (λ (p : Placed). Valid tries (p .statement)) e v); noted = ns .1; note-is = (c, ns .0) }
 
     two-node : (k : ℕ) (f : Statement → Statement → Statement)
         → statementAt left xs at ≡ placed (f (first .statement) (second .statement)) (second .next)
         → (Valid tries (f (first .statement) (second .statement)) → Valid tries (first .statement) × Valid tries (second .statement))
-        → (getD notes at 0 ≡ trimNote R k first) × Noted (TrimNote R notes) xs (left - 1) (at + 1) × Noted (TrimNote R notes) xs (left - 1) (first .next) → NotedTwo k f tries
-    two-node k f e g ns =
+        → eqb (rowOf (kindOf k) .children) 0 ≡ false
+        → (getD notes at 0 ≡ noteFor R k (statementAt left xs at .statement) first) × (Noted R notes xs (left - 1) (at + 1) × Noted R notes xs (left - 1) (first .next)) → NotedTwo k f tries
+    two-node k f e g c ns =
         let vs = g (subst (λ (p : Placed). Valid tries (p .statement)) e v) in
-        record { is = e; valid = vs .0; valid-second = vs .1; noted = ns .1; noted-second = ns .2; note-is = ns .0 }
+        record { is = e; valid = vs .0; valid-second = vs .1; noted = ns .1 .0; noted-second = ns .1 .1; note-is = (c, ns .0) }
 
     pub one-signal : Node left xs at 5 → NotedOne 5 (signal (operandOf (getD xs at 0))) tries
     unfolding placeKind kindOf kinds rowOf Valid
-    one-signal n = one-node 5 (signal (operandOf (getD xs at 0))) tries (placed-node n) (λ w. w .1) (noted-node (TrimNote R notes) n h)
+    one-signal n = one-node 5 (signal (operandOf (getD xs at 0))) tries (placed-node n) (λ w. w .1) refl (noted-node R notes n h)
 
     pub one-loop : Node left xs at 9 → NotedOne 9 loop tries
     unfolding placeKind kindOf kinds rowOf Valid
-    one-loop n = one-node 9 loop tries (placed-node n) (λ w. w) (noted-node (TrimNote R notes) n h)
+    one-loop n = one-node 9 loop tries (placed-node n) (λ w. w) refl (noted-node R notes n h)
 
     pub one-try : Node left xs at 10 → NotedOne 10 try (suc tries)
     unfolding placeKind kindOf kinds rowOf Valid
-    one-try n = one-node 10 try (suc tries) (placed-node n) (λ w. w) (noted-node (TrimNote R notes) n h)
+    one-try n = one-node 10 try (suc tries) (placed-node n) (λ w. w) refl (noted-node R notes n h)
 
     pub two-present : Node left xs at 6 → NotedTwo 6 (present (operandOf (getD xs at 0))) tries
     unfolding placeKind kindOf kinds rowOf Valid
-    two-present n = two-node 6 (present (operandOf (getD xs at 0))) (placed-node n) (λ w. (w .1, w .2)) (noted-node (TrimNote R notes) n h)
+    two-present n = two-node 6 (present (operandOf (getD xs at 0))) (placed-node n) (λ w. (w .1, w .2)) refl (noted-node R notes n h)
 
     pub two-sequence : Node left xs at 7 → NotedTwo 7 sequence tries
     unfolding placeKind kindOf kinds rowOf Valid
-    two-sequence n = two-node 7 sequence (placed-node n) (λ w. (w .0, w .1)) (noted-node (TrimNote R notes) n h)
+    two-sequence n = two-node 7 sequence (placed-node n) (λ w. (w .0, w .1)) refl (noted-node R notes n h)
 
     pub two-parallel : Node left xs at 8 → NotedTwo 8 parallel tries
     unfolding placeKind kindOf kinds rowOf Valid
-    two-parallel n = two-node 8 parallel (placed-node n) (λ w. (w .0, w .1)) (noted-node (TrimNote R notes) n h)
+    two-parallel n = two-node 8 parallel (placed-node n) (λ w. (w .0, w .1)) refl (noted-node R notes n h)
 
 -- ---- what the steps make
 
@@ -120,10 +125,26 @@ module _ (R at left : ℕ) (a : Around) (places work : List ℕ) (to : ℕ) wher
         long = refl;
       }
 
-  pub trimmed-leaf : (t u : Statement) (x named : ℕ) (keep : Bool) (r : Part) (work′ : List ℕ) → left ≢ 0
-      → trimmedIn R places a t ≡ cond keep u nothing → Leaf u x named → LeafPut x named keep work to r work′
+  -- a part that is not live, where it is only resumed
+  pub trimmed-dead : (p : Placed) → at ≤ p .next → a .started ≡ false → live R (p .statement) ≡ false → Done R p at left a places work to (nothingAt to) places work
+  unfolding trimmedIn mapExits
+  trimmed-dead p h b e =
+      record {
+        made = subst (λ (u : Statement). PartStands (mapExits (levelOut places a) 0 u) work to (nothingAt to) work)
+            (sym (ap (λ (z : Bool). trim R z (p .statement)) b ∙ dead-nothing R (p .statement) e)) (made-none work);
+        room = omega arith;
+        shallow = omega arith;
+        same = λ i l. refl;
+        long = refl;
+      }
+    where
+      made-none : (work : List ℕ) → PartStands (mapExits (levelOut places a) 0 nothing) work to (nothingAt to) work
+      made-none work = made-nothing work to
+
+  pub trimmed-leaf : (t u : Statement) (x named : ℕ) (r : Part) (work′ : List ℕ) → left ≢ 0
+      → trimmedIn R places a t ≡ u → Leaf u x named → LeafPut x named work to r work′
       → Done R (placed t (at + 1)) at left a places work to r places work′
-  trimmed-leaf t u x named keep r work′ some is L P =
+  trimmed-leaf t u x named r work′ some is L P =
       let near : to ≤ r .from + 1 = P .near in
       let shallow : r .depth ≤ 1 = P .shallow in
       record {

@@ -1,17 +1,16 @@
-// The descent over the tree that trims it. Each node is looked at once: reach's notes say where its second child stands and
-// whether its first can end, the marks which try statements are kept, so an exit gets its level at once.
+// The descent over the tree that trims it. Each node is looked at once: its note says whether anything may be left of it, where
+// its second child stands and whether its first can end, or whether a try is kept, so an exit gets its level at once.
+use crate::noted;
 use crate::work;
 use crate::work::Part;
 use esterel::Label;
 use esterel::Level;
-use reach::noted;
 ghost use mathlib.Core.Path.{_≡_};
 ghost use mathlib.Core.Bool.{_||_};
 ghost use Prim.Native.Nat.{_+_, _≤_, _<_};
-ghost use Rattle.sets.specs.Set.{has};
 ghost use Rattle.table.specs.inner.Places.{statementAt};
 ghost use Rattle.trim.specs.inner.Levels.{levelOut, startedIf, inElse, inTry, placesIn};
-ghost use Rattle.trim.specs.inner.Parts.{ExitReady, Trimmable, Done};
+ghost use Rattle.trim.specs.inner.Parts.{reachSetOf, ExitReady, Trimmable, Done};
 
 // The places that are noted of try statements, by their numbers from 1: at most 59 stand around a statement.
 pub const PLACES: usize = 64;
@@ -82,22 +81,12 @@ fn level_out(places: &[u8; PLACES], around: Around, level: Level) -> Level
     Level(around.kept - places[number])
 }
 
-// "A pause becomes nothing where b = 0 and its label is outside R".
-fn keeps_pause(reached: u64, label: Label, started: bool) -> bool
-    ensures { λ r. ⌜ r ≡ (started || has reached (label .0)) ⌝ }
-{
-    if started {
-        return true;
-    }
-    sets::contains(reached, label.0)
-}
-
 // Writes the trimmed statement at a place into the work area, so that it ends at `to`. The second child is written first,
-// so nothing is ever moved.
+// so nothing is ever moved. Of a statement that is neither started nor live nothing is left; so a leaf past that test is kept:
+// a pause is started or has its label in R, and the others are started, since they are never live.
 pub fn trim_at(
     nodes: &[u16; table::MOST_NODES],
     notes: &[u16; table::MOST_NODES],
-    r: u64,
     at: usize,
     left: usize,
     around: Around,
@@ -105,65 +94,62 @@ pub fn trim_at(
     work: &mut [u16; table::MOST_NODES],
     to: usize,
 ) -> Part
-    requires { ⌜ Trimmable r (now nodes) (now notes) at left around (now places) (now work) to ⌝ }
-    ensures { λ part. ⌜ Done r (statementAt left (now (nodes .entry)) at) at left around (now (places .entry)) (now (work .entry)) to part (now (places .exit)) (now (work .exit)) ⌝ }
+    requires { ⌜ Trimmable (reachSetOf (now nodes)) (now nodes) (now notes) at left around (now places) (now work) to ⌝ }
+    ensures { λ part. ⌜ Done (reachSetOf (now (nodes .entry))) (statementAt left (now (nodes .entry)) at) at left around (now (places .entry)) (now (work .entry)) to part (now (places .exit)) (now (work .exit)) ⌝ }
 {
     if left == 0 || table::MOST_NODES <= at {
         return work::nothing(to);
     }
     let node = nodes[at];
     let note = notes[at];
+    let b = around.started;
+    if !noted::may_stay(note, b) {
+        return work::nothing(to);
+    }
     let operand = table::operand_of(node);
     let first = at + 1;
     let second = noted::second_place(note);
     let below = left - 1;
-    let b = around.started;
     match table::kind_of(node) {
         table::NOTHING => work::nothing(to),
-        table::PAUSE => {
-            let label = Label(operand);
-            work::put_label(work, to, keeps_pause(r, label, b), table::PAUSE, label)
-        }
-        table::GOTOPAUSE => work::put_label(work, to, b, table::GOTOPAUSE, Label(operand)),
-        table::EMIT => work::put_if(work, to, b, table::EMIT, operand, sets::singleton(operand)),
-        table::EXIT => {
-            let level = level_out(places, around, Level(operand));
-            work::put_exit(work, to, b, level)
-        }
+        table::PAUSE => work::put_label(work, to, table::PAUSE, Label(operand)),
+        table::GOTOPAUSE => work::put_label(work, to, table::GOTOPAUSE, Label(operand)),
+        table::EMIT => work::put_leaf(work, to, table::EMIT, operand, sets::singleton(operand)),
+        table::EXIT => work::put_exit(work, to, level_out(places, around, Level(operand))),
         table::SIGNAL => {
-            let p = trim_at(nodes, notes, r, first, below, around, places, work, to);
+            let p = trim_at(nodes, notes, first, below, around, places, work, to);
             let named = sets::contains(p.named, operand);
             work::wrap_if(work, p, to, named, table::SIGNAL, operand)
         }
         table::PRESENT => {
             let guarded = noted::can_end(note, false);
             let inner = in_else(around, guarded);
-            let q = trim_at(nodes, notes, r, second, below, inner, places, work, to);
+            let q = trim_at(nodes, notes, second, below, inner, places, work, to);
             let e = work::close_else(work, q, to, b, guarded);
-            let p = trim_at(nodes, notes, r, first, below, around, places, work, e.from);
+            let p = trim_at(nodes, notes, first, below, around, places, work, e.from);
             work::close_present(work, p, e, to, b, operand)
         }
         table::SEQUENCE => {
             let inner = with_started(around, noted::can_end(note, b));
-            let q = trim_at(nodes, notes, r, second, below, inner, places, work, to);
-            let p = trim_at(nodes, notes, r, first, below, around, places, work, q.from);
+            let q = trim_at(nodes, notes, second, below, inner, places, work, to);
+            let p = trim_at(nodes, notes, first, below, around, places, work, q.from);
             work::join_parts(work, p, q, to, table::SEQUENCE)
         }
         table::PARALLEL => {
-            let q = trim_at(nodes, notes, r, second, below, around, places, work, to);
-            let p = trim_at(nodes, notes, r, first, below, around, places, work, q.from);
+            let q = trim_at(nodes, notes, second, below, around, places, work, to);
+            let p = trim_at(nodes, notes, first, below, around, places, work, q.from);
             work::join_parts(work, p, q, to, table::PARALLEL)
         }
         table::LOOP => {
             let again = noted::can_end(note, b);
             let inner = with_started(around, again | b);
-            let p = trim_at(nodes, notes, r, first, below, inner, places, work, to);
+            let p = trim_at(nodes, notes, first, below, inner, places, work, to);
             work::wrap_if(work, p, to, again, table::LOOP, 0)
         }
         table::TRY => {
             let kept = noted::keeps_try(note, b);
             let inner = in_try(places, around, kept);
-            let p = trim_at(nodes, notes, r, first, below, inner, places, work, to);
+            let p = trim_at(nodes, notes, first, below, inner, places, work, to);
             work::wrap_if(work, p, to, kept, table::TRY, 0)
         }
         11..=15 => work::refused(to),

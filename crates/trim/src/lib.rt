@@ -1,12 +1,13 @@
 // Trim: the table of the trimmed statement.
 //
-// The cost: the nodes are cut out of the bytes and checked once; one pass, reach's, makes the summary that its rounds go by and
-// notes at the nodes what it found; one completes the notes and marks the try statements that are kept; one writes the trimmed
-// nodes, and one packs them. A pass looks at each node once and does a bounded number of steps there, whatever the depth.
+// The cost: the nodes are cut out of the bytes and checked once; one pass, reach's, makes the summary that its rounds go by; one
+// notes at the nodes what trimming asks; one writes the trimmed nodes, and passes over parts of which nothing is left; one packs
+// them. A pass looks at each node once and does a bounded number of steps there, whatever the depth.
 // Trimming works in an area of its own, which holds as many nodes as a table may have, and touches the caller's buffer only
 // when the table is known to fit.
 mod descent;
 mod marks;
+mod noted;
 mod work;
 
 use descent::Around;
@@ -53,20 +54,19 @@ pub fn refusal(answer: Trimmed) -> u8
 fn trim_nodes(
     nodes: &[u16; table::MOST_NODES],
     notes: &mut [u16; table::MOST_NODES],
-    endings: &mut [u64; table::MOST_NODES],
     places: &mut [u8; descent::PLACES],
     work: &mut [u16; table::MOST_NODES],
 ) -> Laid
     requires { ⌜ Loaded (now nodes) ⌝ }
-    requires { ⌜ Lent (now notes) (now endings) (now places) (now work) ⌝ }
+    requires { ⌜ Lent (now notes) (now places) (now work) ⌝ }
     ensures { λ r. ⌜ LaidOut (trimmed (statementOf (now (nodes .entry)))) r (now (work .exit)) ⌝ }
 {
-    let analysed = reach::settle(nodes, notes, endings);
+    let analysed = reach::settle(nodes);
     let Analysed::Rest(found) = analysed else {
         return Laid::Refused;
     };
-    let leaving = marks::mark_at(nodes, 0, table::DEEPEST, notes, endings, found.set);
-    if marks::is_refused(leaving) {
+    let marked = marks::mark_at(nodes, 0, table::DEEPEST, notes, found.set);
+    if marks::is_refused(marked) {
         return Laid::Refused;
     }
     let around = Around {
@@ -75,17 +75,7 @@ fn trim_nodes(
         kept: 0,
     };
     let to = work::END;
-    let part = descent::trim_at(
-        nodes,
-        notes,
-        found.set,
-        0,
-        table::DEEPEST,
-        around,
-        places,
-        work,
-        to,
-    );
+    let part = descent::trim_at(nodes, notes, 0, table::DEEPEST, around, places, work, to);
     if work::is_refused(part) {
         return Laid::Refused;
     }
@@ -121,18 +111,17 @@ fn trim_with(
     out: &mut [u8],
     nodes: &mut [u16; table::MOST_NODES],
     notes: &mut [u16; table::MOST_NODES],
-    endings: &mut [u64; table::MOST_NODES],
     places: &mut [u8; descent::PLACES],
     work: &mut [u16; table::MOST_NODES],
 ) -> Trimmed
-    requires { ⌜ (length (now nodes) ≡ 1024) × Known (now nodes) × Lent (now notes) (now endings) (now places) (now work) ⌝ }
+    requires { ⌜ (length (now nodes) ≡ 1024) × Known (now nodes) × Lent (now notes) (now places) (now work) ⌝ }
     ensures { λ r. ⌜ (trimmedOutcome r ≡ trimOf (now (table .entry)) (length (now (out .entry)))) × (now (out .exit) ≡ bufferOf (now (table .entry)) (now (out .entry))) ⌝ }
 {
     let checked = table::load(table, nodes);
     let Checked::Accepted(_) = checked else {
         return Trimmed::Refused(table::refusal(checked));
     };
-    let laid = trim_nodes(nodes, notes, endings, places, work);
+    let laid = trim_nodes(nodes, notes, places, work);
     let Laid::At(part) = laid else {
         return Trimmed::Refused(table::NO_KIND);
     };
@@ -145,16 +134,7 @@ pub fn trim(table: &[u8], out: &mut [u8]) -> Trimmed
 {
     let mut nodes = [0u16; table::MOST_NODES];
     let mut notes = [0u16; table::MOST_NODES];
-    let mut endings = [0u64; table::MOST_NODES];
     let mut places = [0u8; descent::PLACES];
     let mut work = [0u16; table::MOST_NODES];
-    trim_with(
-        table,
-        out,
-        &mut nodes,
-        &mut notes,
-        &mut endings,
-        &mut places,
-        &mut work,
-    )
+    trim_with(table, out, &mut nodes, &mut notes, &mut places, &mut work)
 }

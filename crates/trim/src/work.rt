@@ -3,7 +3,7 @@
 use esterel::Label;
 use esterel::Level;
 ghost use mathlib.Core.Path.{_≡_};
-ghost use mathlib.Core.Bool.{true, cond};
+ghost use mathlib.Core.Bool.{cond};
 ghost use Prim.Native.Nat.{_-_, _≤_, _<_};
 ghost use Rattle.sets.specs.Set.{has};
 ghost use Rattle.table.specs.Writing.{node};
@@ -75,48 +75,37 @@ fn put(work: &mut [u16; table::MOST_NODES], from: usize, kind: u16, operand: u8)
     at
 }
 
-// A statement of one node, or nothing.
-pub fn put_if(
+// A statement of one node.
+pub fn put_leaf(
     work: &mut [u16; table::MOST_NODES],
     to: usize,
-    keep: bool,
     kind: u16,
     operand: u8,
     named: u64,
 ) -> Part
-    requires { ⌜ (1 ≤ to) × (to ≤ 4096) × (keep ≡ true → Fitting kind operand) ⌝ }
-    ensures { λ r. ⌜ LeafPut (node kind operand) named keep (now (work .entry)) to r (now (work .exit)) ⌝ }
+    requires { ⌜ (1 ≤ to) × (to ≤ 4096) × Fitting kind operand ⌝ }
+    ensures { λ r. ⌜ LeafPut (node kind operand) named (now (work .entry)) to r (now (work .exit)) ⌝ }
 {
-    if keep {
-        return Part {
-            from: put(work, to, kind, operand),
-            depth: 1,
-            named,
-        };
+    Part {
+        from: put(work, to, kind, operand),
+        depth: 1,
+        named,
     }
-    nothing(to)
 }
 
-// A pause or a gotopause, or nothing.
-pub fn put_label(
-    work: &mut [u16; table::MOST_NODES],
-    to: usize,
-    keep: bool,
-    kind: u16,
-    label: Label,
-) -> Part
-    requires { ⌜ (1 ≤ to) × (to ≤ 4096) × (keep ≡ true → Fitting kind (label .0)) ⌝ }
-    ensures { λ r. ⌜ LeafPut (node kind (label .0)) 0 keep (now (work .entry)) to r (now (work .exit)) ⌝ }
+// A pause or a gotopause.
+pub fn put_label(work: &mut [u16; table::MOST_NODES], to: usize, kind: u16, label: Label) -> Part
+    requires { ⌜ (1 ≤ to) × (to ≤ 4096) × Fitting kind (label .0) ⌝ }
+    ensures { λ r. ⌜ LeafPut (node kind (label .0)) 0 (now (work .entry)) to r (now (work .exit)) ⌝ }
 {
-    put_if(work, to, keep, kind, label.0, 0)
+    put_leaf(work, to, kind, label.0, 0)
 }
 
-// An exit, or nothing.
-pub fn put_exit(work: &mut [u16; table::MOST_NODES], to: usize, keep: bool, level: Level) -> Part
-    requires { ⌜ (1 ≤ to) × (to ≤ 4096) × (keep ≡ true → Fitting 4 (level .0)) ⌝ }
-    ensures { λ r. ⌜ LeafPut (node 4 (level .0)) 0 keep (now (work .entry)) to r (now (work .exit)) ⌝ }
+pub fn put_exit(work: &mut [u16; table::MOST_NODES], to: usize, level: Level) -> Part
+    requires { ⌜ (1 ≤ to) × (to ≤ 4096) × Fitting 4 (level .0) ⌝ }
+    ensures { λ r. ⌜ LeafPut (node 4 (level .0)) 0 (now (work .entry)) to r (now (work .exit)) ⌝ }
 {
-    put_if(work, to, keep, table::EXIT, level.0, 0)
+    put_leaf(work, to, table::EXIT, level.0, 0)
 }
 
 // Nothing gets its node where a statement has to stand.

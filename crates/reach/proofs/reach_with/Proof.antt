@@ -40,8 +40,8 @@ returns c =
     let told = c .before .enum-told2 .given in
     reach-refused (table l) (c .refusal .result) (load-refuses (table l) (old l) _ (checked l) (l .load .ensures) (told .0 .0) (c .refusal .result) (told .1) (c .refusal .ensures))
 
-rounds-of-requires : tie.Need-rounds-of-requires
-rounds-of-requires c κs =
+settle-requires : tie.Need-settle-requires
+settle-requires c κs =
     let l = c .before .before .before in
     let told = c .before .enum-told .given in
     let (all, known) = begun l .pre in
@@ -54,7 +54,7 @@ enum-told-3 : tie.Need-enum-told-3
 enum-told-3 c = search needs
 
 returns-2 : tie.Need-returns-2
-returns-2 c = let k = c .before .before in absurd (never-refused _ (k .rounds-of .result) (k .rounds-of .ensures) (c .enum-told3 .given .1))
+returns-2 c = let k = c .before .before in absurd (never-refused _ (k .settle .result) (k .settle .ensures) (c .enum-told3 .given .1))
 
 ends-requires : tie.Need-ends-requires
 ends-requires c κs = search needs
@@ -67,8 +67,8 @@ returns-3 c =
     let l = k .before .before .before .before in
     let (p, h) = load-holds (table l) (old l) _ (checked l) (l .load .ensures) (told .0 .0) (told .1) in
     reach-found (table l) _ (told .0 .0) p h (load-statement (table l) (old l) _ (checked l) (l .load .ensures) (told .0 .0) (told .1))
-    (k .rounds-of .result) (k .rounds-of .ensures) _ (a .analysed .given .1) (c .ends .result) (c .ends .ensures)
+    (k .settle .result) (k .settle .ensures) _ (a .analysed .given .1) (c .ends .result) (c .ends .ensures)
 
 pub reach-with-spec : {M : Type 1} → statement M
 reach-with-spec =
-    tie.close (tie.spec load-requires enum-told enum-told-2 refusal-requires returns rounds-of-requires enum-known-analysed enum-told-3 returns-2 ends-requires returns-3)
+    tie.close (tie.spec load-requires enum-told enum-told-2 refusal-requires returns settle-requires enum-known-analysed enum-told-3 returns-2 ends-requires returns-3)

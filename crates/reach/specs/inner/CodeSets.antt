@@ -1,6 +1,6 @@
 -- Sets of completion codes as a program holds them, and the sets of esterel that they stand for.
 use Prim.Native.Nat.{ℕ, _-_, _*_, _/_}
-use mathlib.Core.Bool.{Bool, true, false, cond}
+use mathlib.Core.Bool.{cond}
 use Rattle.sets.specs.Set.{has}
 use Rattle.esterel.specs.Codes.{Codes, none, join, minusZero}
 use Rattle.reach.specs.declared.codes.CodeSet.{CodeSet}
@@ -13,11 +13,6 @@ placeOf k = k - 1
 -- what the two words stand for: above bit 0 each code is one place below its own number
 unfoldable pub codesOf : CodeSet → Codes
 codesOf w = record { ends = has (w .codes) (placeOf 0); pausing = w .labels; higher = w .codes / 2 * 4 }
-
--- 1 for true
-unfoldable pub flagOf : Bool → ℕ
-flagOf true = 1
-flagOf false = 0
 
 -- the codes of one statement followed by another: those of the second where the first can end
 unfoldable pub followedBy : Codes → Codes → Codes

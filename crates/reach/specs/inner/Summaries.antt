@@ -69,14 +69,12 @@ abbrev pub EndsAlone : ℕ → Statement → Type 0
 EndsAlone E p = (l : ℕ) → l < 64 → has E l ≡ (has (pauses p) l && d (only l) p .ends)
 
 -- what a pass asks of the statement at a place: that it is valid, in so many tries, with nodes of known kinds; and room
-pub record Summable (left : ℕ) (nodes : List ℕ) (at : ℕ) (kept notes endings : List ℕ) : Type 0 where
+pub record Summable (left : ℕ) (nodes : List ℕ) (at : ℕ) (kept : List ℕ) : Type 0 where
   pub tries : ℕ
   pub valid : Valid tries (statementAt left nodes at .statement)
   pub all : length nodes ≡ 1024
   pub known : Known nodes
   pub room : length kept ≡ 128
-  pub notes-are : length notes ≡ 1024
-  pub endings-are : length endings ≡ 1024
 
 -- it has found the summary of p
 pub record Summarised (p : Placed) (found : Summary) (kept kept′ : List ℕ) : Type 0 where

@@ -1,11 +1,10 @@
--- `trim_nodes` meets its contract: reach's notes, completed and marked, are what trimming asks, and no pass meets a node of
--- no kind.
+-- `trim_nodes` meets its contract: what marking notes is what trimming asks, and no pass meets a node of no kind.
 use denote.Ref.{now}
 use mathlib.Core.Path.{refl, sym, _∙_}
 use borrow.Author.Needs.{needs}
 use Rattle.sets.proofs.Booleans.{clash}
 use Rattle.reach.proofs.Answers.{never-refused}
-use Rattle.trim.proofs.Root.{root-settles, AtRest, root-markable, root-marked, root-trimmable, root-named, root-room, root-ends}
+use Rattle.trim.proofs.Root.{AtRest, root-markable, root-marked, root-trimmable, root-named, root-room, root-ends}
 use Rattle.trim.proofs.trim_nodes.Statement.{statement}
 use Rattle.trim.proofs.trim_nodes.Tie as tie
 
@@ -15,21 +14,19 @@ module _ (c : tie.After-known-told) where
   settled = c .before .before .before
 
   abbrev start : tie.Start
-  start = settled .before .before .before
+  start = settled .before
 
-  rest : AtRest (now (start .args .nodes)) (now (start .args .places)) (now (start .args .work)) (settled .settle .last .1 .0) (settled .settle .last .1 .1 .0) (c .before .analysed .given .0 .0)
+  rest : AtRest (now (start .args .nodes)) (now (start .args .notes)) (now (start .args .places)) (now (start .args .work)) (c .before .analysed .given .0 .0)
   rest = record {
     loaded = start .pre .0;
-    places-are = start .pre .1 .places-are;
-    outermost = start .pre .1 .outermost;
-    work-is = start .pre .1 .work-is;
+    lent = start .pre .1;
     answer = settled .settle .result;
-    rests = settled .settle .ensures;
+    reaches = settled .settle .ensures;
     is = c .before .analysed .given .1;
   }
 
 settle-requires : tie.Need-settle-requires
-settle-requires c κs = let s = c .before .before in root-settles (s .pre .0) (s .pre .1)
+settle-requires c κs = search needs
 
 enum-known-analysed : tie.Need-enum-known-analysed
 enum-known-analysed c = search needs
@@ -38,10 +35,10 @@ enum-told : tie.Need-enum-told
 enum-told c = search needs
 
 returns : tie.Need-returns
-returns c = let k = c .before .before in absurd (never-refused _ (k .settle .result) (k .settle .ensures .reaches) (c .enum-told .given .1))
+returns c = let k = c .before .before in absurd (never-refused _ (k .settle .result) (k .settle .ensures) (c .enum-told .given .1))
 
 mark-at-requires : tie.Need-mark-at-requires
-mark-at-requires c κs = root-markable (rest (c .before .before))
+mark-at-requires c κs = root-markable (rest (c .before))
 
 is-refused-requires : tie.Need-is-refused-requires
 is-refused-requires c κs = search needs
@@ -50,12 +47,12 @@ returns-2 : tie.Need-returns-2
 returns-2 c =
     let f = c .before in
     let m = f .before in
-    clash (sym (f .is-refused .ensures) ∙ c .if1 .taken) (root-marked (rest (m .before .before .before)) (m .mark-at .ensures))
+    clash (sym (f .is-refused .ensures) ∙ c .if1 .taken) (root-marked (rest (m .before .before)) (m .mark-at .ensures))
 
 trim-at-requires : tie.Need-trim-at-requires
 trim-at-requires c κs =
     let m = c .before .before .before .before .before in
-    root-trimmable (rest (m .before .before .before)) (m .mark-at .ensures)
+    root-trimmable (rest (m .before .before)) (m .mark-at .ensures)
 
 is-refused-requires-2 : tie.Need-is-refused-requires-2
 is-refused-requires-2 c κs = search needs
@@ -65,19 +62,19 @@ returns-3 c =
     let f = c .before in
     let d = f .before in
     let m = d .before .before .before .before .before .before in
-    clash (sym (f .is-refused2 .ensures) ∙ c .if2 .taken) (root-named (rest (m .before .before .before)) (d .trim-at .ensures))
+    clash (sym (f .is-refused2 .ensures) ∙ c .if2 .taken) (root-named (rest (m .before .before)) (d .trim-at .ensures))
 
 fill-requires : tie.Need-fill-requires
 fill-requires c κs =
     let d = c .before .before .before in
     let m = d .before .before .before .before .before .before in
-    root-room (rest (m .before .before .before)) (d .trim-at .ensures)
+    root-room (rest (m .before .before)) (d .trim-at .ensures)
 
 returns-4 : tie.Need-returns-4
 returns-4 c =
     let d = c .before .before .before .before in
     let m = d .before .before .before .before .before .before in
-    record { part = c .fill .result; at = refl; ends = root-ends (rest (m .before .before .before)) (d .trim-at .ensures) (c .fill .ensures) }
+    record { part = c .fill .result; at = refl; ends = root-ends (rest (m .before .before)) (d .trim-at .ensures) (c .fill .ensures) }
 
 pub trim-nodes-spec : {M : Type 1} → statement M
 trim-nodes-spec =

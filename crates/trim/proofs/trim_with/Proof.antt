@@ -58,7 +58,7 @@ returns c =
 
 trim-nodes-requires : tie.Need-trim-nodes-requires
 trim-nodes-requires c κs =
-    let e = c .before .before .before .before .before in
+    let e = c .before .before .before .before in
     let l = loaded e in
     let (all, known, lent) = begun l .pre in
     (load-loaded (table l) (old l) _ (checked l) (l .load .ensures) (count e) (accepts e) all known, lent)
@@ -78,7 +78,7 @@ module _ (c : tie.After-known-told) where
   trimmed = c .before .before .before
 
   abbrev accepted : tie.After-enum-told
-  accepted = trimmed .before .before .before .before .before .before
+  accepted = trimmed .before .before .before .before .before
 
 finish-requires : tie.Need-finish-requires
 finish-requires c κs =

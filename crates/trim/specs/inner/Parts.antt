@@ -7,16 +7,16 @@ use mathlib.Core.List.{List, [], _∷_, _++_}
 use lib.Dec.{ltb}
 use lib.ListN.{length, getD, set, take, drop}
 use Rattle.sets.specs.Set.{has, only}
-use Rattle.esterel.specs.Statement.{Statement, nothing, present, sequence, depth, Valid}
+use Rattle.esterel.specs.Statement.{Statement, present, sequence, depth, Valid}
+use Rattle.esterel.specs.Reachability.{reach}
 use Rattle.esterel.specs.Trimming.{isNothing, names, endsAt, joinParts, trim}
 use Rattle.table.specs.Kinds.{kindOf, rowOf}
 use Rattle.table.specs.Writing.{nodes}
-use Rattle.table.specs.inner.Places.{Placed, statementAt, Known}
+use Rattle.table.specs.inner.Places.{Placed, statementAt, statementOf, Known}
 use Rattle.trim.specs.declared.descent.Around.{Around}
 use Rattle.trim.specs.declared.work.Part.{Part}
 use Rattle.trim.specs.inner.Levels.{trimmedIn, wrapIf, guardedIf}
-use Rattle.reach.specs.inner.Notes.{Noted}
-use Rattle.trim.specs.inner.Notes.{TrimNote}
+use Rattle.trim.specs.inner.Notes.{Noted}
 
 -- ---- what stands in the work area
 
@@ -90,8 +90,8 @@ pub record ExitReady (places : List ℕ) (a : Around) (level : ℕ) : Type 0 whe
 
 -- ---- the steps; `near` and `shallow` bound the room and the depth that a step takes
 
-pub record LeafPut (x named : ℕ) (keep : Bool) (work : List ℕ) (to : ℕ) (r : Part) (work′ : List ℕ) : Type 0 where
-  pub made : (t : Statement) → Leaf t x named → PartStands (cond keep t nothing) work to r work′
+pub record LeafPut (x named : ℕ) (work : List ℕ) (to : ℕ) (r : Part) (work′ : List ℕ) : Type 0 where
+  pub made : (t : Statement) → Leaf t x named → PartStands t work to r work′
   pub near : to ≤ r .from + 1
   pub shallow : r .depth ≤ 1
 
@@ -144,10 +144,14 @@ pub record PresentClosed (started : Bool) (S : ℕ) (work : List ℕ) (to : ℕ)
 abbrev pub Caught : ℕ → List ℕ → Around → Statement → Type 0
 Caught R places a p = (d : ℕ) → d < a .tries → endsAt d (trim R (a .started) p) ≡ true → getD places (a .tries - d) 0 < a .kept
 
+-- R of the statement that nodes hold
+unfoldable pub reachSetOf : List ℕ → ℕ
+reachSetOf xs = reach (statementOf xs) .set
+
 -- what trimming the statement at a place asks: 4 nodes of room for each node
 pub record Trimmable (R : ℕ) (xs notes : List ℕ) (at left : ℕ) (a : Around) (places work : List ℕ) (to : ℕ) : Type 0 where
   pub valid : Valid (a .tries) (statementAt left xs at .statement)
-  pub noted : Noted (TrimNote R notes) xs left at
+  pub noted : Noted R notes xs left at
   pub all : length xs ≡ 1024
   pub known : Known xs
   pub room : 4 * statementAt left xs at .next ≤ to + 4 * at

@@ -14,9 +14,8 @@ use Rattle.trim.specs.declared.Trimmed.{Trimmed}
 use Rattle.trim.specs.Answers.{trimmedOutcome, trimFor, bufferAfter}
 
 -- room for trimming the nodes of a table
-pub record Lent (notes endings places work : List ℕ) : Type 0 where
+pub record Lent (notes places work : List ℕ) : Type 0 where
   pub notes-are : length notes ≡ 1024
-  pub endings-are : length endings ≡ 1024
   pub places-are : length places ≡ 64
   pub outermost : getD places 0 0 ≡ 0
   pub work-is : length work ≡ 1024

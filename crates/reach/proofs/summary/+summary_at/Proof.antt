@@ -1,5 +1,4 @@
--- `summary::summary_at` meets its contract: each arm's facts go to the law of its kind, and its notes to the law of as many
--- children. The depth that is left falls.
+-- `summary::summary_at` meets its contract: each arm's facts go to the law of its kind. The depth that is left falls.
 use mathlib.Core.Path.{_≡_, refl, sym, ap, _∙_, subst}
 use mathlib.Core.Logic.{inl, inr, ⊎-elim}
 use Prim.Native.Nat.{ℕ, _+_, _-_, _≤_, _<_}
@@ -8,11 +7,9 @@ use native.Mathlib.Omega.{arith}
 use lib.ListN.{getD}
 use borrow.Author.Tests.{leb-true, leb-false}
 use Rattle.esterel.specs.Codes.{codeOf, justAt, justCode}
-use Rattle.table.specs.Kinds.{kinds, kindOf, rowOf}
 use Rattle.table.specs.Reading.{operandOf}
 use Rattle.reach.specs.inner.Summaries.{outline, Summable}
 use Rattle.table.proofs.Places.{Node, none-of-kinds}
-use Rattle.reach.proofs.Notes.{open-none, open-leaf, open-one, open-two, found-same, room-notes, note-fits}
 use Rattle.reach.proofs.SummedNodes.{at-none, at-nothing, at-pause, at-gotopause, at-emit, at-exit, never-unknown, exit-level, enter-signal, enter-loop, enter-try, at-signal}
 use Rattle.reach.proofs.SummedNodes.{at-loop, at-try, present-splits, sequence-splits, parallel-splits, enter-first, enter-second, at-present, at-sequence, at-parallel}
 use borrow.Fn.Kinds.{In}
@@ -20,7 +17,6 @@ use borrow.Fn.PlainCycle.{Measures, is, falls, and}
 use Rattle.reach.proofs.summary.summary_at.Reads as summary-at
 use Rattle.reach.proofs.summary.summary_at.Kinds as summary-at-kinds
 use Rattle.reach.proofs.summary.+summary_at.Lts-summary_at as summary-at-lts
-use Rattle.reach.proofs.summary.note_child.Reads as note-child-reads
 use Rattle.reach.proofs.summary.of_exit.Reads as of-exit-reads
 use Rattle.reach.proofs.summary.of_gotopause.Reads as of-gotopause-reads
 use Rattle.reach.proofs.summary.of_loop.Reads as of-loop-reads
@@ -36,16 +32,16 @@ use Rattle.table.proofs.operand_of.Reads as operand-of-reads
 use Rattle.reach.proofs.summary.+summary_at.{statement}
 use Rattle.reach.proofs.summary.+summary_at.Tie.{close}
 
-abbrev μ-summary-at : Measures 4 summary-at-kinds.ps ℕ
+abbrev μ-summary-at : Measures 2 summary-at-kinds.ps ℕ
 μ-summary-at κs a = a .1 .1 .0
 
-abbrev summary-at-at : ℕ → In 4 summary-at-kinds.ps
+abbrev summary-at-at : ℕ → In 2 summary-at-kinds.ps
 summary-at-at t =
-    and 4 summary-at-kinds.ps (is 4 summary-at-kinds.ps μ-summary-at t) summary-at.Pre
+    and 2 summary-at-kinds.ps (is 2 summary-at-kinds.ps μ-summary-at t) summary-at.Pre
 
-abbrev summary-at-below : ℕ → In 4 summary-at-kinds.ps
+abbrev summary-at-below : ℕ → In 2 summary-at-kinds.ps
 summary-at-below t =
-    and 4 summary-at-kinds.ps (falls 4 summary-at-kinds.ps _<_ μ-summary-at t) summary-at.Pre
+    and 2 summary-at-kinds.ps (falls 2 summary-at-kinds.ps _<_ μ-summary-at t) summary-at.Pre
 
 abbrev claims : ℕ → summary-at-lts.Claims
 claims t = (
@@ -63,8 +59,6 @@ claims t = (
   of-exit-reads.Learnt,
   summary-at-below t,
   summary-at.Post,
-  note-child-reads.Asked,
-  note-child-reads.Learnt,
   of-present-reads.Asked,
   of-present-reads.Learnt,
   of-sequence-reads.Asked,
@@ -87,7 +81,7 @@ module _ (t : ℕ) (e : summary-at-lts.After-kind-of (claims t) (summary-at-at t
   abbrev kind : ℕ
   kind = e .kind-of .result
 
-  summable : Summable (start .args .left) (start .args .nodes .now) (start .args .at) (start .args .kept .now) (start .args .notes .now) (start .args .endings .now)
+  summable : Summable (start .args .left) (start .args .nodes .now) (start .args .at) (start .args .kept .now)
   summable = start .pre .1
 
   node : (k : ℕ) → e .kind-of .result ≡ k → Node (start .args .left) (start .args .nodes .now) (start .args .at) k
@@ -117,7 +111,7 @@ module _ (t : ℕ) where
   returns c =
       let a = c .before .before .args in
       let none = ⊎-elim (λ w. inl (w .taken)) (λ w. inr (subst (λ (m : ℕ). m ≤ a .at) (sym (c .before .before .pre .1 .all)) (leb-true 1024 (a .at) (w .1 .taken)))) (c .before .if1 .came) in
-      (at-none (a .left) (a .nodes .now) (a .at) (c .of-nothing .result) (a .kept .now) none (c .of-nothing .ensures), open-none (a .left) (a .nodes .now) (a .at) (a .notes .now) (a .endings .now) none)
+      at-none (a .left) (a .nodes .now) (a .at) (c .of-nothing .result) (a .kept .now) none (c .of-nothing .ensures)
 
   mul-node : summary-at-lts.Need-mul-node (claims t) (summary-at-at t) summary-at.Post
   mul-node c = omega (arith, leb-false 1024 (c .before .before .args .at) (c .if2 .left))
@@ -156,140 +150,85 @@ module _ (t : ℕ) where
 
   summary-at-requires : summary-at-lts.Need-summary-at-requires (claims t) (summary-at-at t) summary-at.Post
   summary-at-requires c κs =
-      let m = c .before .before .before in
+      let m = c .before in
       let e = m .before in
       (falls-by-one t e, enter-signal (summable t e) (node t e 5 (m .match .keys6)))
 
-  note-child-requires : summary-at-lts.Need-note-child-requires (claims t) (summary-at-at t) summary-at.Post
-  note-child-requires c κs =
-      let p = c .before .before in
-      let m = p .before .before .before .before in
-      let e = m .before in
-      note-fits (node t e 5 (m .match .keys6)) (summable t e) (p .summary-at .ensures .0)
-
   summary-at-requires-2 : summary-at-lts.Need-summary-at-requires-2 (claims t) (summary-at-at t) summary-at.Post
   summary-at-requires-2 c κs =
-      let m = c .before .before .before in
+      let m = c .before in
       let e = m .before in
       (falls-by-one t e, enter-first present-splits (node t e 6 (m .match .keys7)) (summable t e))
 
-  note-child-requires-2 : summary-at-lts.Need-note-child-requires-2 (claims t) (summary-at-at t) summary-at.Post
-  note-child-requires-2 c κs =
-      let p = c .before .before in
-      let m = p .before .before .before .before in
-      let e = m .before in
-      note-fits (node t e 6 (m .match .keys7)) (summable t e) (p .summary-at2 .ensures .0)
-
   summary-at-requires-3 : summary-at-lts.Need-summary-at-requires-3 (claims t) (summary-at-at t) summary-at.Post
   summary-at-requires-3 c κs =
-      let w = c .before .before .before in
-      let p = w .before .before .before in
-      let m = p .before .before .before .before in
+      let p = c .before in
+      let m = p .before .before in
       let e = m .before in
-      let n = node t e 6 (m .match .keys7) in
-      let (s, l) = p .summary-at2 .ensures in
-      let o = w .note-child2 .ensures in
-      (falls-by-one t e, enter-second present-splits n (summable t e) (found-same n (summable t e) s l o) (room-notes n (summable t e) s l o))
+      (falls-by-one t e, enter-second present-splits (node t e 6 (m .match .keys7)) (summable t e) (p .summary-at2 .ensures))
 
   of-present-requires : summary-at-lts.Need-of-present-requires (claims t) (summary-at-at t) summary-at.Post
   of-present-requires c κs = tt
 
   summary-at-requires-4 : summary-at-lts.Need-summary-at-requires-4 (claims t) (summary-at-at t) summary-at.Post
   summary-at-requires-4 c κs =
-      let m = c .before .before .before in
+      let m = c .before in
       let e = m .before in
       (falls-by-one t e, enter-first sequence-splits (node t e 7 (m .match .keys8)) (summable t e))
 
-  note-child-requires-3 : summary-at-lts.Need-note-child-requires-3 (claims t) (summary-at-at t) summary-at.Post
-  note-child-requires-3 c κs =
-      let p = c .before .before in
-      let m = p .before .before .before .before in
-      let e = m .before in
-      note-fits (node t e 7 (m .match .keys8)) (summable t e) (p .summary-at4 .ensures .0)
-
   summary-at-requires-5 : summary-at-lts.Need-summary-at-requires-5 (claims t) (summary-at-at t) summary-at.Post
   summary-at-requires-5 c κs =
-      let w = c .before .before .before in
-      let p = w .before .before .before in
-      let m = p .before .before .before .before in
+      let p = c .before in
+      let m = p .before .before in
       let e = m .before in
-      let n = node t e 7 (m .match .keys8) in
-      let (s, l) = p .summary-at4 .ensures in
-      let o = w .note-child3 .ensures in
-      (falls-by-one t e, enter-second sequence-splits n (summable t e) (found-same n (summable t e) s l o) (room-notes n (summable t e) s l o))
+      (falls-by-one t e, enter-second sequence-splits (node t e 7 (m .match .keys8)) (summable t e) (p .summary-at4 .ensures))
 
   of-sequence-requires : summary-at-lts.Need-of-sequence-requires (claims t) (summary-at-at t) summary-at.Post
   of-sequence-requires c κs =
       let q = c .before in
-      let w = q .before .before .before .before in
-      let p = w .before .before .before in
-      let m = p .before .before .before .before in
-      q .summary-at5 .ensures .0 .size ∙ p .summary-at4 .ensures .0 .size ∙ summable t (m .before) .room
+      let p = q .before .before in
+      let m = p .before .before in
+      q .summary-at5 .ensures .size ∙ p .summary-at4 .ensures .size ∙ summable t (m .before) .room
 
   summary-at-requires-6 : summary-at-lts.Need-summary-at-requires-6 (claims t) (summary-at-at t) summary-at.Post
   summary-at-requires-6 c κs =
-      let m = c .before .before .before in
+      let m = c .before in
       let e = m .before in
       (falls-by-one t e, enter-first parallel-splits (node t e 8 (m .match .keys9)) (summable t e))
 
-  note-child-requires-4 : summary-at-lts.Need-note-child-requires-4 (claims t) (summary-at-at t) summary-at.Post
-  note-child-requires-4 c κs =
-      let p = c .before .before in
-      let m = p .before .before .before .before in
-      let e = m .before in
-      note-fits (node t e 8 (m .match .keys9)) (summable t e) (p .summary-at6 .ensures .0)
-
   summary-at-requires-7 : summary-at-lts.Need-summary-at-requires-7 (claims t) (summary-at-at t) summary-at.Post
   summary-at-requires-7 c κs =
-      let w = c .before .before .before in
-      let p = w .before .before .before in
-      let m = p .before .before .before .before in
+      let p = c .before in
+      let m = p .before .before in
       let e = m .before in
-      let n = node t e 8 (m .match .keys9) in
-      let (s, l) = p .summary-at6 .ensures in
-      let o = w .note-child4 .ensures in
-      (falls-by-one t e, enter-second parallel-splits n (summable t e) (found-same n (summable t e) s l o) (room-notes n (summable t e) s l o))
+      (falls-by-one t e, enter-second parallel-splits (node t e 8 (m .match .keys9)) (summable t e) (p .summary-at6 .ensures))
 
   of-parallel-requires : summary-at-lts.Need-of-parallel-requires (claims t) (summary-at-at t) summary-at.Post
   of-parallel-requires c κs = tt
 
   summary-at-requires-8 : summary-at-lts.Need-summary-at-requires-8 (claims t) (summary-at-at t) summary-at.Post
   summary-at-requires-8 c κs =
-      let m = c .before .before .before in
+      let m = c .before in
       let e = m .before in
       (falls-by-one t e, enter-loop (summable t e) (node t e 9 (m .match .keys10)))
 
-  note-child-requires-5 : summary-at-lts.Need-note-child-requires-5 (claims t) (summary-at-at t) summary-at.Post
-  note-child-requires-5 c κs =
-      let p = c .before .before in
-      let m = p .before .before .before .before in
-      let e = m .before in
-      note-fits (node t e 9 (m .match .keys10)) (summable t e) (p .summary-at8 .ensures .0)
-
   of-loop-requires : summary-at-lts.Need-of-loop-requires (claims t) (summary-at-at t) summary-at.Post
   of-loop-requires c κs =
-      let p = c .before .before .before .before in
-      let m = p .before .before .before .before in
-      p .summary-at8 .ensures .0 .size ∙ summable t (m .before) .room
+      let p = c .before in
+      let m = p .before .before in
+      p .summary-at8 .ensures .size ∙ summable t (m .before) .room
 
   summary-at-requires-9 : summary-at-lts.Need-summary-at-requires-9 (claims t) (summary-at-at t) summary-at.Post
   summary-at-requires-9 c κs =
-      let m = c .before .before .before in
+      let m = c .before in
       let e = m .before in
       (falls-by-one t e, enter-try (summable t e) (node t e 10 (m .match .keys11)))
 
-  note-child-requires-6 : summary-at-lts.Need-note-child-requires-6 (claims t) (summary-at-at t) summary-at.Post
-  note-child-requires-6 c κs =
-      let p = c .before .before in
-      let m = p .before .before .before .before in
-      let e = m .before in
-      note-fits (node t e 10 (m .match .keys11)) (summable t e) (p .summary-at9 .ensures .0)
-
   of-try-requires : summary-at-lts.Need-of-try-requires (claims t) (summary-at-at t) summary-at.Post
   of-try-requires c κs =
-      let p = c .before .before .before .before in
-      let m = p .before .before .before .before in
-      p .summary-at9 .ensures .0 .size ∙ summable t (m .before) .room
+      let p = c .before in
+      let m = p .before .before in
+      p .summary-at9 .ensures .size ∙ summable t (m .before) .room
 
   refused-requires : summary-at-lts.Need-refused-requires (claims t) (summary-at-at t) summary-at.Post
   refused-requires c κs = tt
@@ -298,107 +237,69 @@ module _ (t : ℕ) where
   refused-requires-2 c κs = tt
 
   returns-2 : summary-at-lts.Need-returns-2 (claims t) (summary-at-at t) summary-at.Post
-  unfolding kindOf kinds rowOf
-  returns-2 c = let e = (c .before .before) in (at-nothing _ _ (node t e 0 (c .before .match .keys1)) (c .of-nothing2 .ensures), open-leaf (node t e 0 (c .before .match .keys1)) refl)
+  returns-2 c = let e = (c .before .before) in at-nothing _ _ (node t e 0 (c .before .match .keys1)) (c .of-nothing2 .ensures)
 
   returns-3 : summary-at-lts.Need-returns-3 (claims t) (summary-at-at t) summary-at.Post
-  unfolding kindOf kinds rowOf
   returns-3 c =
       let e = (c .before .before .before) in
-      (at-pause (c .of-pause .result) (start t e .args .kept .now) _ (node t e 1 (c .before .before .match .keys2)) _ (operand t e) (c .of-pause .ensures), open-leaf (node t e 1 (c .before .before .match .keys2)) refl)
+      at-pause (c .of-pause .result) (start t e .args .kept .now) _ (node t e 1 (c .before .before .match .keys2)) _ (operand t e) (c .of-pause .ensures)
 
   returns-4 : summary-at-lts.Need-returns-4 (claims t) (summary-at-at t) summary-at.Post
-  unfolding kindOf kinds rowOf
   returns-4 c =
       let e = (c .before .before) in
-      (at-gotopause _ _ (node t e 2 (c .before .match .keys3)) (c .of-gotopause .ensures ∙ ap (λ (o : ℕ). outline (justAt o) 0 0 (start t e .args .at + 1)) (operand t e)), open-leaf (node t e 2 (c .before .match .keys3)) refl)
+      at-gotopause _ _ (node t e 2 (c .before .match .keys3)) (c .of-gotopause .ensures ∙ ap (λ (o : ℕ). outline (justAt o) 0 0 (start t e .args .at + 1)) (operand t e))
 
   returns-5 : summary-at-lts.Need-returns-5 (claims t) (summary-at-at t) summary-at.Post
-  unfolding kindOf kinds rowOf
-  returns-5 c = let e = (c .before .before) in (at-emit _ _ (node t e 3 (c .before .match .keys4)) (c .of-nothing3 .ensures), open-leaf (node t e 3 (c .before .match .keys4)) refl)
+  returns-5 c = let e = (c .before .before) in at-emit _ _ (node t e 3 (c .before .match .keys4)) (c .of-nothing3 .ensures)
 
   returns-6 : summary-at-lts.Need-returns-6 (claims t) (summary-at-at t) summary-at.Post
-  unfolding kindOf kinds rowOf
   returns-6 c =
       let e = (c .before .before) in
-      (at-exit _ _ (node t e 4 (c .before .match .keys5)) (c .of-exit .ensures ∙ ap (λ (o : ℕ). outline (justCode (codeOf o)) 0 0 (start t e .args .at + 1)) (operand t e)), open-leaf (node t e 4 (c .before .match .keys5)) refl)
+      at-exit _ _ (node t e 4 (c .before .match .keys5)) (c .of-exit .ensures ∙ ap (λ (o : ℕ). outline (justCode (codeOf o)) 0 0 (start t e .args .at + 1)) (operand t e))
 
   returns-7 : summary-at-lts.Need-returns-7 (claims t) (summary-at-at t) summary-at.Post
-  unfolding kindOf kinds rowOf
   returns-7 c =
-      let p = c .before .before .before in
-      let m = p .before .before .before .before in
+      let m = c .before .before in
       let e = m .before in
-      let n = node t e 5 (m .match .keys6) in
-      let (s, l) = p .summary-at .ensures in
-      let o = c .note-child .ensures in
-      (at-signal n (found-same n (summable t e) s l o), open-one n (summable t e) s l o refl)
+      at-signal (node t e 5 (m .match .keys6)) (c .summary-at .ensures)
 
   returns-8 : summary-at-lts.Need-returns-8 (claims t) (summary-at-at t) summary-at.Post
-  unfolding kindOf kinds rowOf
   returns-8 c =
       let q = c .before in
-      let w = q .before .before .before .before in
-      let p = w .before .before .before in
-      let m = p .before .before .before .before in
+      let p = q .before .before in
+      let m = p .before .before in
       let e = m .before in
-      let n = node t e 6 (m .match .keys7) in
-      let (s, l) = p .summary-at2 .ensures in
-      let o = w .note-child2 .ensures in
-      let (s₂, l₂) = q .summary-at3 .ensures in
-      (at-present (summable t e) (found-same n (summable t e) s l o) s₂ _ n (c .of-present .ensures), open-two n (summable t e) s l o refl l₂)
+      at-present (summable t e) (p .summary-at2 .ensures) (q .summary-at3 .ensures) _ (node t e 6 (m .match .keys7)) (c .of-present .ensures)
 
   returns-9 : summary-at-lts.Need-returns-9 (claims t) (summary-at-at t) summary-at.Post
-  unfolding kindOf kinds rowOf
   returns-9 c =
       let q = c .before .before in
-      let w = q .before .before .before .before in
-      let p = w .before .before .before in
-      let m = p .before .before .before .before in
+      let p = q .before .before in
+      let m = p .before .before in
       let e = m .before in
-      let n = node t e 7 (m .match .keys8) in
-      let (s, l) = p .summary-at4 .ensures in
-      let o = w .note-child3 .ensures in
-      let (s₂, l₂) = q .summary-at5 .ensures in
-      (at-sequence (summable t e) (found-same n (summable t e) s l o) s₂ _ _ n (c .of-sequence .ensures), open-two n (summable t e) s l o refl l₂)
+      at-sequence (summable t e) (p .summary-at4 .ensures) (q .summary-at5 .ensures) _ _ (node t e 7 (m .match .keys8)) (c .of-sequence .ensures)
 
   returns-10 : summary-at-lts.Need-returns-10 (claims t) (summary-at-at t) summary-at.Post
-  unfolding kindOf kinds rowOf
   returns-10 c =
       let q = c .before in
-      let w = q .before .before .before .before in
-      let p = w .before .before .before in
-      let m = p .before .before .before .before in
+      let p = q .before .before in
+      let m = p .before .before in
       let e = m .before in
-      let n = node t e 8 (m .match .keys9) in
-      let (s, l) = p .summary-at6 .ensures in
-      let o = w .note-child4 .ensures in
-      let (s₂, l₂) = q .summary-at7 .ensures in
-      (at-parallel (summable t e) (found-same n (summable t e) s l o) s₂ _ n (c .of-parallel .ensures), open-two n (summable t e) s l o refl l₂)
+      at-parallel (summable t e) (p .summary-at6 .ensures) (q .summary-at7 .ensures) _ (node t e 8 (m .match .keys9)) (c .of-parallel .ensures)
 
   returns-11 : summary-at-lts.Need-returns-11 (claims t) (summary-at-at t) summary-at.Post
-  unfolding kindOf kinds rowOf
   returns-11 c =
-      let w = c .before .before in
-      let p = w .before .before .before in
-      let m = p .before .before .before .before in
+      let p = c .before .before in
+      let m = p .before .before in
       let e = m .before in
-      let n = node t e 9 (m .match .keys10) in
-      let (s, l) = p .summary-at8 .ensures in
-      let o = w .note-child5 .ensures in
-      (at-loop _ _ n (found-same n (summable t e) s l o) (c .of-loop .ensures), open-one n (summable t e) s l o refl)
+      at-loop _ _ (node t e 9 (m .match .keys10)) (p .summary-at8 .ensures) (c .of-loop .ensures)
 
   returns-12 : summary-at-lts.Need-returns-12 (claims t) (summary-at-at t) summary-at.Post
-  unfolding kindOf kinds rowOf
   returns-12 c =
-      let w = c .before .before in
-      let p = w .before .before .before in
-      let m = p .before .before .before .before in
+      let p = c .before .before in
+      let m = p .before .before in
       let e = m .before in
-      let n = node t e 10 (m .match .keys11) in
-      let (s, l) = p .summary-at9 .ensures in
-      let o = w .note-child6 .ensures in
-      (at-try _ _ n (found-same n (summable t e) s l o) (c .of-try .ensures), open-one n (summable t e) s l o refl)
+      at-try _ _ (node t e 10 (m .match .keys11)) (p .summary-at9 .ensures) (c .of-try .ensures)
 
   returns-13 : summary-at-lts.Need-returns-13 (claims t) (summary-at-at t) summary-at.Post
   returns-13 c =
@@ -434,24 +335,18 @@ pub +summary-at-spec : {M : Type 1} → statement M
     (of-nothing-requires-3 t)
     (of-exit-requires t)
     (summary-at-requires t)
-    (note-child-requires t)
     (summary-at-requires-2 t)
-    (note-child-requires-2 t)
     (summary-at-requires-3 t)
     (of-present-requires t)
     (summary-at-requires-4 t)
-    (note-child-requires-3 t)
     (summary-at-requires-5 t)
     (of-sequence-requires t)
     (summary-at-requires-6 t)
-    (note-child-requires-4 t)
     (summary-at-requires-7 t)
     (of-parallel-requires t)
     (summary-at-requires-8 t)
-    (note-child-requires-5 t)
     (of-loop-requires t)
     (summary-at-requires-9 t)
-    (note-child-requires-6 t)
     (of-try-requires t)
     (refused-requires t)
     (refused-requires-2 t)

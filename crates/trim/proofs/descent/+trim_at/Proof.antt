@@ -11,11 +11,11 @@ use borrow.Fn.Kinds.{In}
 use borrow.Fn.PlainCycle.{Measures, is, falls, and}
 use Rattle.table.proofs.Places.{Node, none-of-kinds}
 use Rattle.trim.specs.declared.descent.Around.{Around}
-use Rattle.trim.specs.inner.Parts.{Trimmable}
+use Rattle.trim.specs.inner.Parts.{reachSetOf, Trimmable}
 use Rattle.trim.proofs.Parts.{sequence-fits, parallel-fits, loop-fits, try-fits}
 use Rattle.trim.proofs.Walk.{there, not-there}
 use Rattle.trim.proofs.Steps.{one-room}
-use Rattle.trim.proofs.ByKind.{at-none, at-nothing, leaf-room, pause-fits, at-pause, gotopause-fits, at-gotopause, emit-fits, at-emit}
+use Rattle.trim.proofs.ByKind.{at-none, at-dead, Stays, stays-here, at-nothing, leaf-room, pause-fits, at-pause, gotopause-fits, at-gotopause, emit-fits, at-emit}
 use Rattle.trim.proofs.ByKind.{exit-ready, level-fits, at-exit, the-signal, signal-ready, signal-fits, at-signal, the-loop, loop-ready, at-loop}
 use Rattle.trim.proofs.ByKind.{the-try, try-ready, at-try, then-ready, then-room, the-sequence, sequence-ready, sequence-first, at-sequence}
 use Rattle.trim.proofs.ByKind.{the-parallel, parallel-ready, parallel-first, at-parallel}
@@ -23,32 +23,32 @@ use Rattle.trim.proofs.ByKind.{the-present, present-ready, else-same, s
 use Rattle.trim.proofs.descent.trim_at.Reads as trim-at
 use Rattle.trim.proofs.descent.trim_at.Kinds as trim-at-kinds
 use Rattle.trim.proofs.descent.+trim_at.Lts-trim_at as trim-at-lts
-use Rattle.reach.proofs.noted.can_end.Reads as can-end-reads
-use Rattle.reach.proofs.noted.keeps_try.Reads as keeps-try-reads
-use Rattle.reach.proofs.noted.second_place.Reads as second-place-reads
 use Rattle.sets.proofs.contains.Reads as contains-reads
 use Rattle.sets.proofs.singleton.Reads as singleton-reads
 use Rattle.table.proofs.kind_of.Reads as kind-of-reads
 use Rattle.table.proofs.operand_of.Reads as operand-of-reads
-use Rattle.trim.proofs.work.close_else.Reads as close-else-reads
-use Rattle.trim.proofs.work.close_present.Reads as close-present-reads
 use Rattle.trim.proofs.descent.in_else.Reads as in-else-reads
 use Rattle.trim.proofs.descent.in_try.Reads as in-try-reads
-use Rattle.trim.proofs.work.join_parts.Reads as join-parts-reads
-use Rattle.trim.proofs.descent.keeps_pause.Reads as keeps-pause-reads
 use Rattle.trim.proofs.descent.level_out.Reads as level-out-reads
+use Rattle.trim.proofs.descent.with_started.Reads as with-started-reads
+use Rattle.trim.proofs.noted.can_end.Reads as can-end-reads
+use Rattle.trim.proofs.noted.keeps_try.Reads as keeps-try-reads
+use Rattle.trim.proofs.noted.may_stay.Reads as may-stay-reads
+use Rattle.trim.proofs.noted.second_place.Reads as second-place-reads
+use Rattle.trim.proofs.work.close_else.Reads as close-else-reads
+use Rattle.trim.proofs.work.close_present.Reads as close-present-reads
+use Rattle.trim.proofs.work.join_parts.Reads as join-parts-reads
 use Rattle.trim.proofs.work.nothing.Reads as nothing-reads
 use Rattle.trim.proofs.work.put_exit.Reads as put-exit-reads
-use Rattle.trim.proofs.work.put_if.Reads as put-if-reads
 use Rattle.trim.proofs.work.put_label.Reads as put-label-reads
+use Rattle.trim.proofs.work.put_leaf.Reads as put-leaf-reads
 use Rattle.trim.proofs.work.refused.Reads as refused-reads
-use Rattle.trim.proofs.descent.with_started.Reads as with-started-reads
 use Rattle.trim.proofs.work.wrap_if.Reads as wrap-if-reads
 use Rattle.trim.proofs.descent.+trim_at.{statement}
 use Rattle.trim.proofs.descent.+trim_at.Tie.{close}
 
 abbrev μ-trim-at : Measures 4 trim-at-kinds.ps ℕ
-μ-trim-at κs a = a .1 .1 .1 .1 .0
+μ-trim-at κs a = a .1 .1 .1 .0
 
 abbrev trim-at-at : ℕ → In 4 trim-at-kinds.ps
 trim-at-at t = and 4 trim-at-kinds.ps (is 4 trim-at-kinds.ps μ-trim-at t) trim-at.Pre
@@ -60,20 +60,20 @@ abbrev claims : ℕ → trim-at-lts.Claims
 claims t = (
   nothing-reads.Asked,
   nothing-reads.Learnt,
+  may-stay-reads.Asked,
+  may-stay-reads.Learnt,
   operand-of-reads.Asked,
   operand-of-reads.Learnt,
   second-place-reads.Asked,
   second-place-reads.Learnt,
   kind-of-reads.Asked,
   kind-of-reads.Learnt,
-  keeps-pause-reads.Asked,
-  keeps-pause-reads.Learnt,
   put-label-reads.Asked,
   put-label-reads.Learnt,
   singleton-reads.Asked,
   singleton-reads.Learnt,
-  put-if-reads.Asked,
-  put-if-reads.Learnt,
+  put-leaf-reads.Asked,
+  put-leaf-reads.Learnt,
   level-out-reads.Asked,
   level-out-reads.Learnt,
   put-exit-reads.Asked,
@@ -109,13 +109,16 @@ module _ (t : ℕ) (a : trim-at-lts.After-kind-of (claims t) (trim-at-at t) trim
   abbrev read : trim-at-lts.After-operand-of (claims t) (trim-at-at t) trim-at.Post
   read = a .before .before
 
+  abbrev tested : trim-at-lts.After-may-stay (claims t) (trim-at-at t) trim-at.Post
+  tested = read .before .before
+
   abbrev entered : trim-at-lts.Else2 (claims t) (trim-at-at t) trim-at.Post
-  entered = read .before .before .before
+  entered = tested .before .before .before
 
   abbrev start : trim-at-lts.Start (claims t) (trim-at-at t) trim-at.Post
   start = entered .before .before
 
-  abbrev given : Trimmable (start .args .r) (now (start .args .nodes)) (now (start .args .notes)) (start .args .at) (start .args .left) (start .args .around) (now (start .args .places)) (now (start .args .work)) (start .args .to)
+  abbrev given : Trimmable (reachSetOf (now (start .args .nodes))) (now (start .args .nodes)) (now (start .args .notes)) (start .args .at) (start .args .left) (start .args .around) (now (start .args .places)) (now (start .args .work)) (start .args .to)
   given = start .pre .1
 
   some : start .args .left ≢ 0
@@ -123,6 +126,9 @@ module _ (t : ℕ) (a : trim-at-lts.After-kind-of (claims t) (trim-at-at t) trim
 
   node : {k : ℕ} → a .kind-of .result ≡ k → Node (start .args .left) (now (start .args .nodes)) (start .args .at) k
   node = there some (given .all) (entered .if2 .left) (a .kind-of .ensures)
+
+  stays : Stays given
+  stays = stays-here given (node refl) (tested .may-stay .ensures) (read .before .if3 .left)
 
   falls-by-one : start .args .left - 1 < t
   falls-by-one = omega (arith, start .pre .0, some)
@@ -199,11 +205,24 @@ module _ (t : ℕ) where
   element-copy-out-note : trim-at-lts.Need-element-copy-out-note (claims t) (trim-at-at t) trim-at.Post
   element-copy-out-note c = let e = c .before in leb-false 1024 (e .before .before .args .at) (e .if2 .left)
 
+  may-stay-requires : trim-at-lts.Need-may-stay-requires (claims t) (trim-at-at t) trim-at.Post
+  may-stay-requires c κs = search needs
+
+  nothing-requires-2 : trim-at-lts.Need-nothing-requires-2 (claims t) (trim-at-at t) trim-at.Post
+  nothing-requires-2 c κs = search needs
+
+  returns-2 : trim-at-lts.Need-returns-2 (claims t) (trim-at-at t) trim-at.Post
+  returns-2 c =
+      let m = c .before .before in
+      let e = m .before .before .before in
+      let s = e .before .before in
+      rw (c .nothing2 .ensures) (at-dead (s .pre .1) (there (e .before .if1 .left) (s .pre .1 .all) (e .if2 .left) refl refl) (m .may-stay .ensures) (c .before .if3 .taken))
+
   operand-of-requires : trim-at-lts.Need-operand-of-requires (claims t) (trim-at-at t) trim-at.Post
   operand-of-requires c κs = search needs
 
   add-first : trim-at-lts.Need-add-first (claims t) (trim-at-at t) trim-at.Post
-  add-first c = let e = c .before .before .before in omega (arith, leb-false 1024 (e .before .before .args .at) (e .if2 .left))
+  add-first c = let e = c .before .before .before .before .before in omega (arith, leb-false 1024 (e .before .before .args .at) (e .if2 .left))
 
   second-place-requires : trim-at-lts.Need-second-place-requires (claims t) (trim-at-at t) trim-at.Post
   second-place-requires c κs = search needs
@@ -214,19 +233,16 @@ module _ (t : ℕ) where
   kind-of-requires : trim-at-lts.Need-kind-of-requires (claims t) (trim-at-at t) trim-at.Post
   kind-of-requires c κs = search needs
 
-  nothing-requires-2 : trim-at-lts.Need-nothing-requires-2 (claims t) (trim-at-at t) trim-at.Post
-  nothing-requires-2 c κs = search needs
-
-  keeps-pause-requires : trim-at-lts.Need-keeps-pause-requires (claims t) (trim-at-at t) trim-at.Post
-  keeps-pause-requires c κs = search needs
+  nothing-requires-3 : trim-at-lts.Need-nothing-requires-3 (claims t) (trim-at-at t) trim-at.Post
+  nothing-requires-3 c κs = search needs
 
   put-label-requires : trim-at-lts.Need-put-label-requires (claims t) (trim-at-at t) trim-at.Post
   put-label-requires c κs =
-      let m = c .before .before in
+      let m = c .before in
       let a = m .before in
       let n = node t a (m .match .keys2) in
       let (one, most) = leaf-room (given t a) n in
-      (one, most, λ k. pause-fits (given t a) n (read t a .operand-of .result) (read t a .operand-of .ensures))
+      (one, most, pause-fits (given t a) n (read t a .operand-of .result) (read t a .operand-of .ensures))
 
   put-label-requires-2 : trim-at-lts.Need-put-label-requires-2 (claims t) (trim-at-at t) trim-at.Post
   put-label-requires-2 c κs =
@@ -234,33 +250,32 @@ module _ (t : ℕ) where
       let a = m .before in
       let n = node t a (m .match .keys3) in
       let (one, most) = leaf-room (given t a) n in
-      (one, most, λ k. gotopause-fits (given t a) n (read t a .operand-of .result) (read t a .operand-of .ensures))
+      (one, most, gotopause-fits (given t a) n (read t a .operand-of .result) (read t a .operand-of .ensures))
 
   singleton-requires : trim-at-lts.Need-singleton-requires (claims t) (trim-at-at t) trim-at.Post
   singleton-requires c κs = search needs
 
-  put-if-requires : trim-at-lts.Need-put-if-requires (claims t) (trim-at-at t) trim-at.Post
-  put-if-requires c κs =
+  put-leaf-requires : trim-at-lts.Need-put-leaf-requires (claims t) (trim-at-at t) trim-at.Post
+  put-leaf-requires c κs =
       let m = c .before .before in
       let a = m .before in
       let n = node t a (m .match .keys4) in
       let (one, most) = leaf-room (given t a) n in
-      (one, most, λ k. emit-fits (given t a) n (read t a .operand-of .result) (read t a .operand-of .ensures))
+      (one, most, emit-fits (given t a) n (read t a .operand-of .result) (read t a .operand-of .ensures))
 
   level-out-requires : trim-at-lts.Need-level-out-requires (claims t) (trim-at-at t) trim-at.Post
   level-out-requires c κs =
-      let m = c .before in
+      let m = c .before .before in
       let a = m .before in
       exit-ready (given t a) (node t a (m .match .keys5)) (read t a .operand-of .result) (read t a .operand-of .ensures)
 
   put-exit-requires : trim-at-lts.Need-put-exit-requires (claims t) (trim-at-at t) trim-at.Post
   put-exit-requires c κs =
-      let l = c .before in
-      let m = l .before .before in
+      let m = c .before .before .before in
       let a = m .before in
       let n = node t a (m .match .keys5) in
       let (one, most) = leaf-room (given t a) n in
-      (one, most, level-fits (given t a) n (read t a .operand-of .ensures) (l .level-out .result .0) (l .level-out .ensures))
+      (one, most, level-fits (given t a) n (stays t a) (read t a .operand-of .ensures) (c .level-out .result .0) (c .level-out .ensures))
 
   trim-at-requires : trim-at-lts.Need-trim-at-requires (claims t) (trim-at-at t) trim-at.Post
   trim-at-requires c κs =
@@ -420,46 +435,45 @@ module _ (t : ℕ) where
   refused-requires-2 : trim-at-lts.Need-refused-requires-2 (claims t) (trim-at-at t) trim-at.Post
   refused-requires-2 c κs = search needs
 
-  returns-2 : trim-at-lts.Need-returns-2 (claims t) (trim-at-at t) trim-at.Post
-  returns-2 c = let m = c .before in let a = m .before in rw (c .nothing2 .ensures) (at-nothing (given t a) (node t a (m .match .keys1)))
-
   returns-3 : trim-at-lts.Need-returns-3 (claims t) (trim-at-at t) trim-at.Post
-  returns-3 c =
-      let k = c .before in
-      let m = k .before .before in
-      let a = m .before in
-      at-pause (given t a) (node t a (m .match .keys2)) (read t a .operand-of .ensures) (k .keeps-pause .ensures) (c .put-label .ensures)
+  returns-3 c = let m = c .before in let a = m .before in rw (c .nothing3 .ensures) (at-nothing (given t a) (node t a (m .match .keys1)))
 
   returns-4 : trim-at-lts.Need-returns-4 (claims t) (trim-at-at t) trim-at.Post
   returns-4 c =
       let m = c .before .before in
       let a = m .before in
-      at-gotopause (given t a) (node t a (m .match .keys3)) (read t a .operand-of .ensures) (c .put-label2 .ensures)
+      at-pause (given t a) (node t a (m .match .keys2)) (stays t a) (read t a .operand-of .ensures) (c .put-label .ensures)
 
   returns-5 : trim-at-lts.Need-returns-5 (claims t) (trim-at-at t) trim-at.Post
   returns-5 c =
-      let o = c .before in
-      let m = o .before .before in
+      let m = c .before .before in
       let a = m .before in
-      at-emit (given t a) (node t a (m .match .keys4)) (read t a .operand-of .ensures) (o .singleton .ensures) (c .put-if .ensures)
+      at-gotopause (given t a) (node t a (m .match .keys3)) (stays t a) (read t a .operand-of .ensures) (c .put-label2 .ensures)
 
   returns-6 : trim-at-lts.Need-returns-6 (claims t) (trim-at-at t) trim-at.Post
   returns-6 c =
-      let l = c .before .before in
-      let m = l .before .before in
+      let o = c .before in
+      let m = o .before .before in
       let a = m .before in
-      at-exit (given t a) (node t a (m .match .keys5)) (read t a .operand-of .ensures) (l .level-out .result .0) (l .level-out .ensures) (c .put-exit .ensures)
+      at-emit (given t a) (node t a (m .match .keys4)) (stays t a) (read t a .operand-of .ensures) (o .singleton .ensures) (c .put-leaf .ensures)
 
   returns-7 : trim-at-lts.Need-returns-7 (claims t) (trim-at-at t) trim-at.Post
   returns-7 c =
+      let l = c .before in
+      let m = l .before .before .before in
+      let a = m .before in
+      at-exit (given t a) (node t a (m .match .keys5)) (stays t a) (read t a .operand-of .ensures) (l .level-out .result .0) (l .level-out .ensures) (c .put-exit .ensures)
+
+  returns-8 : trim-at-lts.Need-returns-8 (claims t) (trim-at-at t) trim-at.Post
+  returns-8 c =
       let d = c .before .before in
       let p = d .before in
       let m = p .before .before .before in
       let a = m .before in
       at-signal (given t a) (node t a (m .match .keys6)) (read t a .operand-of .ensures) (p .trim-at .ensures) (d .contains .ensures) (c .wrap-if .ensures)
 
-  returns-8 : trim-at-lts.Need-returns-8 (claims t) (trim-at-at t) trim-at.Post
-  returns-8 c =
+  returns-9 : trim-at-lts.Need-returns-9 (claims t) (trim-at-at t) trim-at.Post
+  returns-9 c =
       let p = c .before .before in
       let e = p .before .before .before in
       let q = e .before .before in
@@ -467,31 +481,31 @@ module _ (t : ℕ) where
       at-present (given t a) (present-node t q) (read t a .operand-of .ensures) (a .before .second-place .ensures) (guarding t q .can-end .ensures) (branching t q .in-else .ensures)
       (q .trim-at2 .ensures) (e .close-else .ensures) (p .trim-at3 .ensures) (c .close-present .ensures)
 
-  returns-9 : trim-at-lts.Need-returns-9 (claims t) (trim-at-at t) trim-at.Post
-  returns-9 c =
+  returns-10 : trim-at-lts.Need-returns-10 (claims t) (trim-at-at t) trim-at.Post
+  returns-10 c =
       let p = c .before .before in
       let q = p .before .before .before in
       let a = sequence-kind t q in
       let b = going-on t q in
       at-sequence (given t a) (sequence-node t q) (a .before .second-place .ensures) (b .before .can-end2 .ensures) (b .with-started .ensures) (q .trim-at4 .ensures) (p .trim-at5 .ensures) (c .join-parts .ensures)
 
-  returns-10 : trim-at-lts.Need-returns-10 (claims t) (trim-at-at t) trim-at.Post
-  returns-10 c =
+  returns-11 : trim-at-lts.Need-returns-11 (claims t) (trim-at-at t) trim-at.Post
+  returns-11 c =
       let p = c .before .before in
       let q = p .before .before .before in
       let a = parallel-kind t q in
       at-parallel (given t a) (parallel-node t q) (a .before .second-place .ensures) (q .trim-at6 .ensures) (p .trim-at7 .ensures) (c .join-parts2 .ensures)
 
-  returns-11 : trim-at-lts.Need-returns-11 (claims t) (trim-at-at t) trim-at.Post
-  returns-11 c =
+  returns-12 : trim-at-lts.Need-returns-12 (claims t) (trim-at-at t) trim-at.Post
+  returns-12 c =
       let p = c .before .before in
       let b = p .before .before .before in
       let m = b .before .before in
       let a = m .before in
       at-loop (given t a) (node t a (m .match .keys10)) (b .before .can-end3 .ensures) (b .with-started2 .ensures) (p .trim-at8 .ensures) (c .wrap-if2 .ensures)
 
-  returns-12 : trim-at-lts.Need-returns-12 (claims t) (trim-at-at t) trim-at.Post
-  returns-12 c =
+  returns-13 : trim-at-lts.Need-returns-13 (claims t) (trim-at-at t) trim-at.Post
+  returns-13 c =
       let p = c .before .before in
       let b = p .before .before .before in
       let k = b .before .before in
@@ -499,11 +513,11 @@ module _ (t : ℕ) where
       let a = m .before in
       at-try (given t a) (node t a (m .match .keys11)) (k .keeps-try .ensures) (b .in-try .ensures .0) (b .in-try .ensures .1) (p .trim-at9 .ensures) (c .wrap-if3 .ensures)
 
-  returns-13 : trim-at-lts.Need-returns-13 (claims t) (trim-at-at t) trim-at.Post
-  returns-13 c = absurd (unknown t (c .before .before))
-
   returns-14 : trim-at-lts.Need-returns-14 (claims t) (trim-at-at t) trim-at.Post
   returns-14 c = absurd (unknown t (c .before .before))
+
+  returns-15 : trim-at-lts.Need-returns-15 (claims t) (trim-at-at t) trim-at.Post
+  returns-15 c = absurd (unknown t (c .before .before))
 
 pub +trim-at-spec : {M : Type 1} → statement M
 +trim-at-spec =
@@ -519,17 +533,19 @@ pub +trim-at-spec : {M : Type 1} → statement M
     (element-copy-out-node t)
     (mul-note t)
     (element-copy-out-note t)
+    (may-stay-requires t)
+    (nothing-requires-2 t)
+    (returns-2 t)
     (operand-of-requires t)
     (add-first t)
     (second-place-requires t)
     (sub-below t)
     (kind-of-requires t)
-    (nothing-requires-2 t)
-    (keeps-pause-requires t)
+    (nothing-requires-3 t)
     (put-label-requires t)
     (put-label-requires-2 t)
     (singleton-requires t)
-    (put-if-requires t)
+    (put-leaf-requires t)
     (level-out-requires t)
     (put-exit-requires t)
     (trim-at-requires t)
@@ -559,7 +575,6 @@ pub +trim-at-spec : {M : Type 1} → statement M
     (wrap-if-requires-3 t)
     (refused-requires t)
     (refused-requires-2 t)
-    (returns-2 t)
     (returns-3 t)
     (returns-4 t)
     (returns-5 t)
@@ -572,3 +587,4 @@ pub +trim-at-spec : {M : Type 1} → statement M
     (returns-12 t)
     (returns-13 t)
     (returns-14 t)
+    (returns-15 t)

@@ -1,20 +1,16 @@
--- `marks::again` meets its contract, from what the note says.
+-- `marks::again` meets its contract.
+use mathlib.Core.Path.{ap}
 use Prim.Native.Nat.{ℕ}
-use mathlib.Core.Bool.{Bool}
-use mathlib.Core.Path.{ap, _∙_}
-use Rattle.trim.specs.inner.Marking.{exits, exitsIf}
+use Rattle.trim.specs.inner.Marking.{exits}
 use borrow.Author.Needs.{needs}
 use Rattle.trim.proofs.marks.again.Statement.{statement}
 use Rattle.trim.proofs.marks.again.Tie as tie
-
-can-end-requires : tie.Need-can-end-requires
-can-end-requires c κs = search needs
 
 exits-if-requires : tie.Need-exits-if-requires
 exits-if-requires c κs = search needs
 
 returns : tie.Need-returns
-returns c = let s = c .before .before in ap (λ (n : ℕ). exits n (s .args .p .started)) (c .exits-if .ensures ∙ ap (λ (z : Bool). exitsIf z (s .args .p)) (c .before .can-end .ensures))
+returns c = ap (λ (n : ℕ). exits n (c .before .args .p .started)) (c .exits-if .ensures)
 
 pub again-spec : {M : Type 1} → statement M
-again-spec = tie.close (tie.spec can-end-requires exits-if-requires returns)
+again-spec = tie.close (tie.spec exits-if-requires returns)

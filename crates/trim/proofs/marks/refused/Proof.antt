@@ -1,18 +1,20 @@
--- `marks::refused` meets its contract: the level is below the width.
-use mathlib.Core.Path.{ap, _∙_}
-use Prim.Native.Nat.{ℕ}
-use native.Mathlib.Omega.{arith}
+-- `marks::refused` meets its contract.
+use Rattle.trim.proofs.Marking.{found-nothing}
 use borrow.Author.Needs.{needs}
-use Rattle.sets.proofs.Members.{only-fits}
-use Rattle.trim.specs.inner.Marking.{exits}
 use Rattle.trim.proofs.marks.refused.Statement.{statement}
 use Rattle.trim.proofs.marks.refused.Tie as tie
 
-singleton-requires : tie.Need-singleton-requires
-singleton-requires c κs = search needs
+just-ended-requires : tie.Need-just-ended-requires
+just-ended-requires c κs = search needs
+
+no-exits-requires : tie.Need-no-exits-requires
+no-exits-requires c κs = search needs
+
+of-leaf-requires : tie.Need-of-leaf-requires
+of-leaf-requires c κs = search needs
 
 returns : tie.Need-returns
-returns c = ap (λ (n : ℕ). exits n n) (c .singleton .ensures ∙ only-fits 64 63 (omega arith))
+returns c = let e = c .before in found-nothing (c .of-leaf .ensures) 0 (e .before .just-ended .ensures) (e .no-exits .ensures) .next
 
 pub refused-spec : {M : Type 1} → statement M
-refused-spec = tie.close (tie.spec singleton-requires returns)
+refused-spec = tie.close (tie.spec just-ended-requires no-exits-requires of-leaf-requires returns)
