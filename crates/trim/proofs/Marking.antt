@@ -219,7 +219,7 @@ module _ (R : ℕ) (P Q : Placed) {p q : Marked} (F : Finds R P p) (G : Finds R 
 -- ---- the pass
 
 -- the kinds with two children, one by one
-pub by-two : (P : ℕ → Type 0) (k : ℕ) → 6 ≤ k → k ≤ 8 → P 6 → P 7 → P 8 → P k
+by-two : (P : ℕ → Type 0) (k : ℕ) → 6 ≤ k → k ≤ 8 → P 6 → P 7 → P 8 → P k
 by-two P k a b x y z = go (ℕ-discrete k 6) (ℕ-discrete k 7)
   where
     go : Dec (k ≡ 6) → Dec (k ≡ 7) → P k
@@ -227,14 +227,14 @@ by-two P k a b x y z = go (ℕ-discrete k 6) (ℕ-discrete k 7)
     go (no f) (yes e) = subst P (sym e) y
     go (no f) (no g) = subst P (let e : 8 ≡ k = omega arith in e) z
 
-no-children : (k : ℕ) → k ≤ 4 → rowOf (kindOf k) .children ≡ 0
+leaf-children : (k : ℕ) → k ≤ 4 → rowOf (kindOf k) .children ≡ 0
 unfolding kindOf kinds rowOf
-no-children zero h = refl
-no-children (suc zero) h = refl
-no-children (suc (suc zero)) h = refl
-no-children (suc (suc (suc zero))) h = refl
-no-children (suc (suc (suc (suc zero)))) h = refl
-no-children (suc (suc (suc (suc (suc k))))) h = absurd (omega arith)
+leaf-children zero h = refl
+leaf-children (suc zero) h = refl
+leaf-children (suc (suc zero)) h = refl
+leaf-children (suc (suc (suc zero))) h = refl
+leaf-children (suc (suc (suc (suc zero)))) h = refl
+leaf-children (suc (suc (suc (suc (suc k))))) h = absurd (omega arith)
 
 two-children : (k : ℕ) → 6 ≤ k → k ≤ 8 → rowOf (kindOf k) .children ≡ 2
 unfolding kindOf kinds rowOf
@@ -346,7 +346,7 @@ module _ (R : ℕ) {left : ℕ} {nodes : List ℕ} {at k : ℕ} (n : Node left n
       → Marks R nodes left at notes m notes₁
   unfolding noteFor
   mark-leaf {m} {notes₁} h F w =
-      let c = no-children k h in
+      let c = leaf-children k h in
       let f = found-here (F child) in
       record {
         finds = f;

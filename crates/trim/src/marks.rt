@@ -114,7 +114,7 @@ fn outside(p: Exits) -> Exits
     }
 }
 
-// A statement of one node that is no pause and no exit; and where no node is left.
+// A statement of one node that is no pause; and where no node is left.
 fn of_leaf(s: CodeSet, exits: Exits, next: usize) -> Marked
     ensures { λ m. ⌜ DeadFound s exits next m ⌝ }
 {
@@ -279,6 +279,7 @@ fn refused() -> Marked
     of_leaf(codes::just_ended(), no_exits(), reach::summary::REFUSED)
 }
 
+// Whether a node of no kind was met on the way to the root.
 pub fn is_refused(root: Marked) -> bool
     ensures { λ r. ⌜ r ≡ eqb (root .next) 1025 ⌝ }
 {
