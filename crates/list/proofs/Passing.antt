@@ -19,7 +19,7 @@ use Rattle.table.specs.inner.Places.{Placed, placed, placeOne, placeTwo}
 use Rattle.lister.specs.inner.Notes.{packedNote, fromOf, behindOf, nestOf, labelsNoted, nestedOnce, placeAt, partAt, ReadWhole, EndsFrom, PausesFrom}
 use Rattle.lister.proofs.Nodes.{One, Two, before-end, not-known, is-nothing, is-pause, is-gotopause, is-emit, is-exit, is-signal, is-present, is-sequence, is-parallel, is-loop, is-try}
 use Rattle.lister.proofs.Fields.{from-note, behind-note, nest-note, note-split, once-more, once-too-many}
-use Rattle.list.specs.inner.Notes.{pausesIn, labelsIn, onward, pausesFrom, labelsFrom, noteFor, NoteRoom, NotedFrom, Splits, SplitFrom, NotesFrom, UnionsFrom, AllNoted, Passable, CameTo, NotesPut}
+use Rattle.list.specs.inner.Notes.{pausesIn, labelsIn, onward, pausesFrom, labelsFrom, countedNote, NoteRoom, NotedFrom, Splits, SplitFrom, NotesFrom, UnionsFrom, AllNoted, Passable, CameTo, NotesPut}
 use Rattle.list.proofs.Pauses.{here-pause, here-none, here-fresh, few-from, fewer-onward}
 
 -- ---- Sets
@@ -55,7 +55,7 @@ put-as {at} {end} {note} {note′} {ends} {ends′} {notes} {notes′} w e = rec
 -- what is right of the statement at a place
 record Right (n : ℕ) (xs : List ℕ) (at : ℕ) (p : Placed) (end note : ℕ) : Type 0 where
   is-end : end ≡ p .next
-  is-note : note ≡ noteFor n xs at p
+  is-note : note ≡ countedNote n xs at p
   splits : Splits n xs at p
 
 -- a row with one place set, where the old one is right after it
@@ -88,7 +88,7 @@ module _ {n : ℕ} {xs : List ℕ} {at node behind : ℕ} {ends notes : List ℕ
           for-notes = ap length (w .wrote-note) ∙ length-set notes at note ∙ k;
         };
         right-ends = one-more ends ends′ end (λ j. placeAt xs j .next) (omega arith) (w .wrote-end) (c .noted .right-ends) (λ v. r v .is-end);
-        right-notes = one-more notes notes′ note (λ j. noteFor n xs j (placeAt xs j)) (omega arith) (w .wrote-note) (c .noted .right-notes) (λ v. r v .is-note);
+        right-notes = one-more notes notes′ note (λ j. countedNote n xs j (placeAt xs j)) (omega arith) (w .wrote-note) (c .noted .right-notes) (λ v. r v .is-note);
         right-labels = split;
       }
     where
@@ -139,7 +139,7 @@ module _ {n : ℕ} {xs : List ℕ} {at node behind : ℕ} {ends notes : List ℕ
     unfolding EndsFrom
     end-there = c .noted .right-ends i h w
 
-    note-there : noteAt ≡ noteFor n xs i (placeAt xs i)
+    note-there : noteAt ≡ countedNote n xs i (placeAt xs i)
     unfolding NotedFrom
     note-there = c .noted .right-notes i h w
 

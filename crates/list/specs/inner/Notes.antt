@@ -47,11 +47,11 @@ pub record NoteRoom (ends notes : List ℕ) : Type 0 where
   pub for-notes : length notes ≡ 1024
 
 -- the note of a statement, with the place after it: 13 stands for all nestings above 12
-abbrev pub noteFor : ℕ → List ℕ → ℕ → Placed → ℕ
-noteFor n xs at p = packedNote (pausesFrom n xs at) (pausesFrom n xs (p .next)) (min 13 (nesting (p .statement)))
+abbrev pub countedNote : ℕ → List ℕ → ℕ → Placed → ℕ
+countedNote n xs at p = packedNote (pausesFrom n xs at) (pausesFrom n xs (p .next)) (min 13 (nesting (p .statement)))
 
 unfoldable pub NotedFrom : ℕ → ℕ → List ℕ → List ℕ → Type 0
-NotedFrom i n xs notes = (at : ℕ) → i ≤ at → ReadWhole n xs at → getD notes at 0 ≡ noteFor n xs at (placeAt xs at)
+NotedFrom i n xs notes = (at : ℕ) → i ≤ at → ReadWhole n xs at → getD notes at 0 ≡ countedNote n xs at (placeAt xs at)
 
 -- the labels from its first node on are those of its pauses and, apart from them, those behind its end: a fact of the nodes
 -- alone, which is shown place by place along with the notes
