@@ -286,8 +286,8 @@ pub fn is_refused(root: Marked) -> bool
     root.next == reach::summary::REFUSED
 }
 
-// What is found of the statement at a place, which is resumed from labels of `r`; on the way each node gets its note. The kinds
-// are told apart by ranges and few single kinds, since a jump through a table of addresses is predicted badly.
+// What is found of the statement at a place, which is resumed from labels of `r`; on the way each node gets its note. The arms
+// are ranges and few single kinds, since a jump through a table of addresses is predicted badly.
 pub fn mark_at(
     nodes: &[u16; table::MOST_NODES],
     at: usize,
@@ -305,28 +305,34 @@ pub fn mark_at(
     let kind = table::kind_of(node);
     let first = at + 1;
     let below = left - 1;
-    if kind <= table::EXIT {
-        let m = without_child(kind, table::operand_of(node), r, first);
-        note_leaf(notes, at, m.live);
-        return m;
+    match kind {
+        table::NOTHING..=table::EXIT => {
+            let m = without_child(kind, table::operand_of(node), r, first);
+            note_leaf(notes, at, m.live);
+            m
+        }
+        table::SIGNAL => {
+            let p = mark_at(nodes, first, below, notes, r);
+            note_child(notes, at, p, p.live);
+            p
+        }
+        table::PRESENT..=table::PARALLEL => {
+            let p = mark_at(nodes, first, below, notes, r);
+            let q = mark_at(nodes, p.next, below, notes, r);
+            note_child(notes, at, p, p.live | q.live);
+            with_two(kind, p, q)
+        }
+        table::LOOP => {
+            let p = mark_at(nodes, first, below, notes, r);
+            note_child(notes, at, p, p.live);
+            of_loop(p)
+        }
+        table::TRY => {
+            let p = mark_at(nodes, first, below, notes, r);
+            note_try(notes, at, p);
+            of_try(p)
+        }
+        11..=15 => refused(),
+        _ => refused(),
     }
-    if table::TRY < kind {
-        return refused();
-    }
-    let p = mark_at(nodes, first, below, notes, r);
-    if kind == table::TRY {
-        note_try(notes, at, p);
-        return of_try(p);
-    }
-    if kind == table::LOOP {
-        note_child(notes, at, p, p.live);
-        return of_loop(p);
-    }
-    if kind == table::SIGNAL {
-        note_child(notes, at, p, p.live);
-        return p;
-    }
-    let q = mark_at(nodes, p.next, below, notes, r);
-    note_child(notes, at, p, p.live | q.live);
-    with_two(kind, p, q)
 }
