@@ -55,14 +55,29 @@ static void choices(unsigned n, unsigned label)
     choices(n / 2, label + n / 2);
 }
 
-/* Six signals around 32 reactions behind a pause: a list of each is held at once. */
+/* In parallel to an exit to a try of its own, so that one reaction is left of what follows. */
+static void collapsed(void)
+{
+    node(TRY, 0);
+    node(PARALLEL, 0);
+    node(EXIT, 1);
+}
+
+/* Behind a pause 32 reactions, and while their list is held another of 32, and while that is held the
+   64 pairs of two lists of 8. */
 static void crowd(void)
 {
-    for (unsigned signal = 0; signal < 6; signal++)
-        node(SIGNAL, signal);
     node(SEQUENCE, 0);
     node(PAUSE, 1);
+    node(PARALLEL, 0);
     choices(32, 1);
+    collapsed();
+    node(PARALLEL, 0);
+    choices(32, 1);
+    collapsed();
+    node(PARALLEL, 0);
+    choices(8, 1);
+    choices(8, 9);
 }
 
 /* Below so many nodes, a chain of one kind that goes down by its last child, and at its bottom a

@@ -12,7 +12,7 @@ use Rattle.esterel.specs.inner.Rows.{Row}
 use Rattle.esterel.specs.inner.CappedRows.{CappedRows, sortedRows, capRows, collectRows}
 use Rattle.esterel.proofs.Order.{append-left, append-right}
 use Rattle.area.specs.inner.Layout.{packed}
-use Rattle.area.specs.inner.Area.{rowAt, rows, InOrder, Low, Made, Put, Stored, Copied}
+use Rattle.area.specs.inner.Area.{rowAt, rows, InOrder, Low, Made, Put, Stored, Shifted}
 use Rattle.area.proofs.Order.{sorted-there}
 use Rattle.area.proofs.Members.{Same, same, same-as, same-sym, same-trans, same-append, same-swap, same-assoc, same-sorted, sorted-equal, sorted-length, cap-some, cap-none}
 use Rattle.area.proofs.Rows.{rows-length}
@@ -196,7 +196,7 @@ passing-step {a₀} {a} {b} {base} {n} {i} {q} {r} {goal} xs ys todo next t e p 
     }
 
 -- what was made at top, moved down to base; or there was too much
-pub made-lowered : {a₀ a b : List ℕ} {base need top n : ℕ} {v : CappedRows} → Made a₀ a top need v n → base ≤ top → n ≤ 64 → Copied a b base top n → Made a₀ b base need v n
+pub made-lowered : {a₀ a b : List ℕ} {base need top n : ℕ} {v : CappedRows} → Made a₀ a top need v n → base ≤ top → n ≤ 64 → Shifted a b base top n → Made a₀ b base need v n
 made-lowered {a₀} {a} {b} {base} {need} {top} {n} m h k l =
     let f = m .fits k in
     record {

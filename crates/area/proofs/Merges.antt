@@ -12,7 +12,7 @@ use lib.ListN.{length}
 use Rattle.esterel.specs.inner.Rows.{Row}
 use Rattle.esterel.specs.inner.CappedRows.{beforeRow, capRows, collectRows}
 use Rattle.esterel.proofs.RowOrder.{row-same}
-use Rattle.area.specs.inner.Area.{rowAt, rows, InOrder, Low, Made, Copied, Taken, Split, Beside, Merged}
+use Rattle.area.specs.inner.Area.{rowAt, rows, InOrder, Low, Made, Shifted, Taken, Split, Beside, Merged}
 use Rattle.area.proofs.Order.{sorted-there, in-order-right, in-order-on, in-order-between}
 use Rattle.area.proofs.Members.{Same, same, same-as, same-sym, same-trans, same-append, same-swap, same-assoc, same-again, collect-same, cap-some}
 use Rattle.area.proofs.Rows.{rows-agree, rows-cons, rows-done, rows-whole, rows-none, rows-one, rows-split, rows-length}
@@ -130,7 +130,7 @@ module _ (a₀ : List ℕ) (base top n₁ mid n₂ : ℕ) where
         made-after (m .same) (m .low) (made-as p (collect-same (same-trans (same-as (ap (λ (z : List Row). rows a base n ++ z) (sym e))) (m .lists .sum))))
 
 -- ---- what is left of one side set behind what is written
-module _ (a b : List ℕ) (base n q u : ℕ) (t : base + 2 * n ≤ q) (fits : q + 2 * u ≤ length a) (o : InOrder (rows a base n ++ rows a q u)) (c : Copied a b (base + 2 * n) q u) where
+module _ (a b : List ℕ) (base n q u : ℕ) (t : base + 2 * n ≤ q) (fits : q + 2 * u ≤ length a) (o : InOrder (rows a base n ++ rows a q u)) (c : Shifted a b (base + 2 * n) q u) where
   joined-rows : rows b base (n + u) ≡ rows a base n ++ rows a q u
   joined-rows =
       let front : rows b base n ≡ rows a base n = rows-agree a b base n (λ i d f. c .low i (omega arith)) in
@@ -144,7 +144,7 @@ module _ (a b : List ℕ) (base n q u : ℕ) (t : base + 2 * n ≤ q) (fits : q 
 
 -- ---- the rows of the first list that have to move stand above the second
 module _ (a b : List ℕ) (base n₁ n₂ n : ℕ) (p : Beside a base n₁ n₂) (some-there : 0 < n₂) (small : n₂ ≤ 64) (h : n ≤ n₁)
-    (last : 0 < n → (n < n₁) × (beforeRow (rowAt a (base + 2 * n₁)) (rowAt a (base + 2 * n)) ≡ false)) (c : Copied a b (base + 2 * n₁ + 2 * n₂) (base + 2 * n) (n₁ - n)) where
+    (last : 0 < n → (n < n₁) × (beforeRow (rowAt a (base + 2 * n₁)) (rowAt a (base + 2 * n)) ≡ false)) (c : Shifted a b (base + 2 * n₁ + 2 * n₂) (base + 2 * n) (n₁ - n)) where
   abbrev mid : ℕ
   mid = base + 2 * n₁
 

@@ -10,7 +10,7 @@ use lib.Seq.{getD-set-same, getD-set-other}
 use Rattle.esterel.specs.inner.Rows.{Row}
 use Rattle.esterel.specs.inner.CappedRows.{beforeRow}
 use Rattle.area.specs.inner.Layout.{packed}
-use Rattle.area.specs.inner.Area.{rowAt, rows, Stored, Copied, Taken, Searched}
+use Rattle.area.specs.inner.Area.{rowAt, rows, Stored, Shifted, Taken, Searched}
 use Rattle.area.proofs.Rows.{rows-copy}
 
 -- ---- the search by halves: the row at high is above x, and the one before low is not
@@ -90,14 +90,14 @@ opening-step a₀ a f t j o h k =
     go i b d (no y) = getD-set-other a (j - 1 + 2) (i + 2) (getD a (j - 1) 0) 0 (λ z. omega arith) ∙ o .moved i (omega arith) d
 
 -- ---- words copied, from the first on: j of m are done
-pub record Copying (a₀ a : List ℕ) (t f m j : ℕ) : Type 0 where
+pub record Shifting (a₀ a : List ℕ) (t f m j : ℕ) : Type 0 where
   pub to : j ≤ m
   pub same : length a ≡ length a₀
   pub low : (i : ℕ) → i < t → getD a i 0 ≡ getD a₀ i 0
   pub done : (i k : ℕ) → t ≤ i → i < t + j → i + f ≡ k + t → getD a i 0 ≡ getD a₀ k 0
   pub high : (i : ℕ) → t + j ≤ i → getD a i 0 ≡ getD a₀ i 0
 
-module _ (a₀ a : List ℕ) (t f m j : ℕ) (o : Copying a₀ a t f m j) where
+module _ (a₀ a : List ℕ) (t f m j : ℕ) (o : Shifting a₀ a t f m j) where
   module _ (h : j < m) (fits : t + m ≤ length a₀) (apart : f < t → f + m ≤ t) where
     -- the next word to read is as it was
     unread : getD a (f + j) 0 ≡ getD a₀ (f + j) 0
@@ -107,8 +107,8 @@ module _ (a₀ a : List ℕ) (t f m j : ℕ) (o : Copying a₀ a t f m j) where
         go (yes y) = let g = apart y in o .low (f + j) (omega arith)
         go (no y) = o .high (f + j) (omega arith)
 
-    pub copying-step : Copying a₀ (set a (t + j) (getD a (f + j) 0)) t f m (j + 1)
-    copying-step = record {
+    pub shifting-step : Shifting a₀ (set a (t + j) (getD a (f + j) 0)) t f m (j + 1)
+    shifting-step = record {
       to = omega arith;
       same = length-set a (t + j) (getD a (f + j) 0) ∙ o .same;
       low = λ i b. getD-set-other a (t + j) i (getD a (f + j) 0) 0 (λ z. omega arith) ∙ o .low i b;
@@ -124,11 +124,11 @@ module _ (a₀ a : List ℕ) (t f m j : ℕ) (o : Copying a₀ a t f m j) where
             let u : f + j ≡ k = omega arith in
             ap (λ (x : ℕ). getD (set a (t + j) (getD a (f + j) 0)) x 0) z ∙ getD-set-same a (t + j) (getD a (f + j) 0) 0 (omega arith) ∙ unread ∙ ap (λ (x : ℕ). getD a₀ x 0) u
 
-pub copying-end : (a₀ a : List ℕ) (t f n j : ℕ) → Copying a₀ a t f (2 * n) j → 2 * n ≤ j → Copied a₀ a t f n
-copying-end a₀ a t f n j o h = record { same = o .same; low = o .low; moved = rows-copy a₀ a t f n (λ i k b d e. o .done i k b (omega arith) e) }
+pub shifting-end : (a₀ a : List ℕ) (t f n j : ℕ) → Shifting a₀ a t f (2 * n) j → 2 * n ≤ j → Shifted a₀ a t f n
+shifting-end a₀ a t f n j o h = record { same = o .same; low = o .low; moved = rows-copy a₀ a t f n (λ i k b d e. o .done i k b (omega arith) e) }
 
-pub copied-there : (a : List ℕ) (t f n : ℕ) → t ≡ f → Copied a a t f n
-copied-there a t f n e = record { same = refl; low = λ i b. refl; moved = ap (λ (z : ℕ). rows a z n) e }
+pub shifted-there : (a : List ℕ) (t f n : ℕ) → t ≡ f → Shifted a a t f n
+shifted-there a t f n e = record { same = refl; low = λ i b. refl; moved = ap (λ (z : ℕ). rows a z n) e }
 
 -- ---- one row stored
 pub stored : (a : List ℕ) (q w l : ℕ) → q + 2 ≤ length a → Stored a (set (set a q w) (q + 1) l) q w l

@@ -18,7 +18,7 @@ use Rattle.area.specs.declared.Pairing.{Pairing}
 use Rattle.area.specs.declared.Pairing.the-variants.{Sequence, Parallel}
 use Rattle.area.specs.inner.Layout.{conditionIn, packed}
 use Rattle.area.specs.inner.Rules.{unlessClash, joined, joinedAll, pairs, product}
-use Rattle.area.specs.inner.Area.{rowAt, rows, InOrder, Alone, Made, Put, Copied}
+use Rattle.area.specs.inner.Area.{rowAt, rows, InOrder, Alone, Made, Put, Shifted}
 use Rattle.area.proofs.Members.{same-as, cap-some}
 use Rattle.area.proofs.Rows.{row-agree, rows-agree, rows-cons, rows-done, rows-whole, rows-one, packed-as, condition-both}
 use Rattle.area.proofs.Changes.{put-as}
@@ -146,7 +146,7 @@ module _ (m : Pairing) (a₀ : List ℕ) (base n₁ n₂ : ℕ) where
       pub products-step : r ≤ 64 → Filling a₀ b top r (products (i + 1)) products-goal
       products-step k = filling-step (pairs m seconds (rowAt a₀ (base + 2 * i))) (products (i + 1)) (products i) f (same-as products-cons) next k
 
-    pub products-end : n₁ ≤ i → (b : List ℕ) → Copied a b base top n → Made a₀ b base 0 (collectRows products-goal) n
+    pub products-end : n₁ ≤ i → (b : List ℕ) → Shifted a b base top n → Made a₀ b base 0 (collectRows products-goal) n
     unfolding product eachRow
     products-end h b l = made-lowered (filling-end 0 (products i) f (ap (λ (z : List Row). product m z seconds) (rows-done a₀ base n₁ i h))) (omega arith) (f .small) l
 

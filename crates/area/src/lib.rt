@@ -15,7 +15,7 @@ ghost use Rattle.esterel.specs.inner.Rows.{reactions, localRow};
 ghost use Rattle.esterel.specs.inner.CappedRows.{beforeRow, collectRows};
 ghost use Rattle.area.specs.inner.Layout.{conditionIn, packed};
 ghost use Rattle.area.specs.inner.Rules.{unlessClash, changed, joined, joinedAll, pairs, product as productOf};
-ghost use Rattle.area.specs.inner.Area.{rowAt, rows, InOrder, Alone, Made, Put, Searched, MovedUp, Stored, Copied, Taken, Split, Altered, Beside, Merged};
+ghost use Rattle.area.specs.inner.Area.{rowAt, rows, InOrder, Alone, Made, Put, Searched, MovedUp, Stored, Shifted, Taken, Split, Altered, Beside, Merged};
 
 // The most rows of a list.
 pub const MOST: usize = 64;
@@ -210,9 +210,9 @@ fn store(area: &mut [u64], q: usize, w: u64, l: u64)
 }
 
 // The n rows at f copied to t: down, or up to where none of them stands, or not at all where they stand there.
-fn copy(area: &mut [u64], t: usize, f: usize, n: usize)
+fn shift(area: &mut [u64], t: usize, f: usize, n: usize)
     requires { ⌜ (t + 2 * n ≤ length (now area)) × (f + 2 * n ≤ length (now area)) × (f < t → f + 2 * n ≤ t) ⌝ }
-    ensures { λ _. ⌜ Copied (now (area .entry)) (now (area .exit)) t f n ⌝ }
+    ensures { λ _. ⌜ Shifted (now (area .entry)) (now (area .exit)) t f n ⌝ }
 {
     if t == f {
         return;
@@ -517,7 +517,7 @@ fn product_of_many(area: &mut [u64], base: usize, n1: usize, n2: usize, how: Pai
         }
         i += 1;
     }
-    copy(area, base, top, n);
+    shift(area, base, top, n);
     n
 }
 
@@ -562,7 +562,7 @@ fn take_all(area: &mut [u64], base: usize, n: usize, q: usize, u: usize) -> usiz
     requires { ⌜ (base + 2 * n ≤ q) × (q + 2 * u ≤ length (now area)) × InOrder (rows (now area) base n ++ rows (now area) q u) ⌝ }
     ensures { λ r. ⌜ Made (now (area .entry)) (now (area .exit)) base 0 (collectRows (rows (now (area .entry)) base n ++ rows (now (area .entry)) q u)) r ⌝ }
 {
-    copy(area, base + 2 * n, q, u);
+    shift(area, base + 2 * n, q, u);
     let all = n + u;
     if MOST < all {
         return OVER;
@@ -609,7 +609,7 @@ fn merge_down(
     take_all(area, base, n, mid + 2 * j, n2 - j)
 }
 
-// How many of the n1 rows at base surely stay where they are when the row behind them comes among them: those before the last
+// Of the n1 rows at base so many that stay where they are when the row behind them comes among them: here those before the last
 // that is not above it, which may be equal to it.
 fn staying(area: &[u64], base: usize, n1: usize) -> usize
     requires { ⌜ base + 2 * n1 + 2 ≤ length (now area) ⌝ }
@@ -632,12 +632,12 @@ fn merge_both(area: &mut [u64], base: usize, n1: usize, n2: usize) -> usize
     let top = mid + 2 * n2;
     let kept = staying(area, base, n1);
     let rest = n1 - kept;
-    copy(area, top, base + 2 * kept, rest);
+    shift(area, top, base + 2 * kept, rest);
     merge_down(area, base, kept, top, rest, mid, n2)
 }
 
 // The n1 rows at base and the n2 above them, each in order, as one list; n2 itself where it says that there is none. They are one
-// list as they stand where the last of the first is below the second.
+// list as they stand where the last of the first is below the first of the second.
 pub fn merge(area: &mut [u64], base: usize, n1: usize, n2: usize) -> usize
     requires { ⌜ Beside (now area) base n1 n2 ⌝ }
     ensures { λ r. ⌜ Merged _++_ (now (area .entry)) (now (area .exit)) base n1 n2 r ⌝ }

@@ -4,7 +4,7 @@ use esterel::Label;
 use lister::COUNTS;
 use lister::joined;
 use lister::nested_once;
-use lister::note_of;
+use lister::note_with;
 use table::MOST_NODES;
 use table::kind_of;
 use table::operand_of;
@@ -43,7 +43,7 @@ fn put_leaf(
     ensures { λ _. ⌜ NotesPut at (at + 1) (packedNote from behind 0) (now (ends .entry)) (now (ends .exit)) (now (notes .entry)) (now (notes .exit)) ⌝ }
 {
     let end = at + 1;
-    put(ends, notes, at, end as u16, note_of(from, behind, 0));
+    put(ends, notes, at, end as u16, note_with(from, behind, 0));
 }
 
 // A node of a kind that there is not: the nesting tells the root.
@@ -52,7 +52,13 @@ fn put_refused(ends: &mut [u16; MOST_NODES], notes: &mut [u16; MOST_NODES], at: 
     ensures { λ _. ⌜ NotesPut at (at + 1) (packedNote 0 0 15) (now (ends .entry)) (now (ends .exit)) (now (notes .entry)) (now (notes .exit)) ⌝ }
 {
     let end = at + 1;
-    put(ends, notes, at, end as u16, note_of(0, 0, lister::NO_NEST));
+    put(
+        ends,
+        notes,
+        at,
+        end as u16,
+        note_with(0, 0, lister::NO_NEST),
+    );
 }
 
 // What is noted of the statement at a place, from what is noted of its children; so many pauses stand behind the node. The arms

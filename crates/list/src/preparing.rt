@@ -20,9 +20,6 @@ ghost use Rattle.list.specs.inner.Preparing.{Rooms, Prepares};
 // The most signals that may be unknown: a condition has a slot for each.
 const MOST_SLOTS: u8 = 12;
 
-// The most signal statements inside one another.
-const MOST_NESTED: u16 = 12;
-
 // Signals are numbers below this.
 const SIGNALS: u8 = 32;
 
@@ -85,7 +82,7 @@ pub fn prepare(
     if nest == NO_NEST {
         return Prepared::Refused(table::NO_KIND);
     }
-    if MOST_NESTED < nest {
+    if lister::MOST_NESTED < nest {
         return Prepared::Refused(TOO_NESTED);
     }
     if nest == 0 {

@@ -11,14 +11,17 @@ ghost use Rattle.lister.specs.inner.Notes.{packedNote, fromOf, behindOf,
 // Counts of pauses are below this: there are labels 1 to 63, and two pauses never share one.
 pub const COUNTS: usize = 64;
 
-// The nesting that stands for all of more than 12.
-const DEEP: u16 = 13;
+// "over 12 signal statements inside one another"
+pub const MOST_NESTED: u16 = 12;
+
+// The nesting that stands for all that are deeper.
+const DEEP: u16 = MOST_NESTED + 1;
 
 // The nesting that is noted of a node of a kind that there is not, and of all statements around it.
 pub const NO_NEST: u16 = 15;
 
 // The note of a statement.
-pub fn note_of(from: u16, behind: u16, nest: u16) -> u16
+pub fn note_with(from: u16, behind: u16, nest: u16) -> u16
     requires { ⌜ (from < 64) × (behind < 64) × (nest < 16) ⌝ }
     ensures { λ r. ⌜ r ≡ packedNote from behind nest ⌝ }
 {

@@ -42,7 +42,7 @@ has-if false m l = has-empty l
 none-of : (l : ℕ) (p q : Statement) → has (pauses p union pauses q) l ≡ false → (has (pauses p) l ≡ false) × (has (pauses q) l ≡ false)
 none-of l p q h = or-neither (has (pauses p) l) (has (pauses q) l) (sym (has-union (pauses p) (pauses q) l) ∙ h)
 
-pub d-outside : (l : ℕ) (p : Statement) → has (pauses p) l ≡ false → d (only l) p ≡ none
+d-outside : (l : ℕ) (p : Statement) → has (pauses p) l ≡ false → d (only l) p ≡ none
 unfolding d pauses
 d-outside l nothing h = refl
 d-outside l (pause m) h = ap (λ (z : Bool). cond z justEnded none) (has-only-other l m (λ e. clash (subst (λ (x : ℕ). has (only m) x ≡ true) (sym e) (has-only m)) h))

@@ -1,8 +1,9 @@
 // Reach: one pass over the nodes for a summary of the statement, then rounds over it until none adds a label.
 pub mod codes;
-pub mod summary;
+mod summary;
 
 use codes::CodeSet;
+pub use summary::BEYOND;
 use table::Checked;
 ghost use mathlib.Core.Path.{_≡_};
 ghost use lib.ListN.{length};
@@ -31,7 +32,7 @@ fn rounds_with(nodes: &[u16; table::MOST_NODES], kept: &mut [u64; summary::KEPT]
     ensures { λ r. ⌜ Reaches (now (nodes .entry)) r ⌝ }
 {
     let found = summary::summary_at(nodes, 0, table::DEEPEST, kept);
-    if found.next == summary::REFUSED {
+    if found.next == BEYOND {
         return Analysed::Refused;
     }
     let start = found.start;

@@ -22,7 +22,7 @@ const LABELS: usize = 64;
 pub const KEPT: usize = 128;
 
 // The place after a statement that is refused: beyond every place, so that what stands there is refused as well.
-pub const REFUSED: usize = 1025;
+pub const BEYOND: usize = 1025;
 
 // The codes of the started statement, the labels of its pauses, those of them from which it can end, and the place after
 // its last node.
@@ -237,7 +237,7 @@ fn of_try(p: Summary, kept: &mut [u64; KEPT]) -> Summary
 fn refused() -> Summary
     ensures { λ r. ⌜ r .next ≡ 1025 ⌝ }
 {
-    of_nothing(REFUSED)
+    of_nothing(BEYOND)
 }
 
 // The summary of the statement at a place, down to the depth that is left. Each node is looked at once.

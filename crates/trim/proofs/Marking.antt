@@ -150,7 +150,7 @@ module _ {K : CodeSet} {e : Exits} {next : ℕ} {m : Marked} (F : DeadFound K e 
   found-exit l h k x = F .found R (exit l) k refl (rw x (one-exit R l next h)) (live-none R (exit l) refl)
 
 module _ (R : ℕ) (P : Placed) {p : Marked} (F : Finds R P p) where
-  pub found-signal : (S : ℕ) → Finds R (placeOne (signal S) P) p
+  found-signal : (S : ℕ) → Finds R (placeOne (signal S) P) p
   unfolding s d live pauses
   found-signal S = record { start = F .start; resumed = F .resumed; leaving = signal-exits R S P (p .exits) (F .leaving); lives = F .lives; next = F .next }
 

@@ -1,4 +1,4 @@
--- Trimming's refused outcome never comes: no emit or present of a valid statement names what no signal is.
+-- The descent's refused outcome never comes: no emit or present of a valid statement names what no signal is.
 use mathlib.Core.Path.{_≡_, refl, ap₂}
 use mathlib.Core.Bool.{false, _||_}
 use Prim.Native.Nat.{ℕ, suc, _<_}

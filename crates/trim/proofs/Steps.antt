@@ -49,7 +49,7 @@ module _ (R : ℕ) (xs notes : List ℕ) (at left : ℕ) where
     pub valid : Valid inside (first .statement)
     pub valid-second : Valid inside (second .statement)
     pub noted : Noted R notes xs (left - 1) (at + 1)
-    pub noted-second : Noted R notes xs (left - 1) (first .next)
+    noted-second : Noted R notes xs (left - 1) (first .next)
     pub note-is : ParentNote k
 
   -- what the note says

@@ -1,4 +1,4 @@
-// The descent over the tree that trims it. Each node is looked at once: its note says whether anything may be left of it, where
+// The descent over the tree that trims it. Each node is looked at at most once: its note says whether anything may be left of it, where
 // its second child stands and whether its first can end, or whether a try is kept, so an exit gets its level at once.
 use crate::noted;
 use crate::work;

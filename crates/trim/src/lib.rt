@@ -1,8 +1,8 @@
 // Trim: the table of the trimmed statement.
 //
 // The cost: the nodes are cut out of the bytes and checked once; one pass, reach's, makes the summary that its rounds go by; one
-// notes at the nodes what trimming asks; one writes the trimmed nodes, and passes over parts of which nothing is left; one packs
-// them. A pass looks at each node once and does a bounded number of steps there, whatever the depth.
+// notes at the nodes what trimming asks; one writes the trimmed nodes, and skips parts of which nothing is left; one packs
+// them. A pass looks at each node at most once and does a bounded number of steps there, whatever the depth.
 // Trimming works in an area of its own, which holds as many nodes as a table may have, and touches the caller's buffer only
 // when the table is known to fit.
 mod descent;

@@ -152,7 +152,7 @@ fn of_pause(label: Label, r: u64, next: usize) -> Marked
     }
 }
 
-// By the kind of a node without children.
+// By the kind of a node without children; the last arm is an exit.
 fn without_child(kind: u16, operand: u8, r: u64, next: usize) -> Marked
     requires { ⌜ LeafReady kind operand ⌝ }
     ensures { λ m. ⌜ LeafFound r kind operand next m ⌝ }
@@ -235,7 +235,7 @@ fn of_parallel(p: Marked, q: Marked) -> Marked
     }
 }
 
-// By the kind of a node with two children.
+// By the kind of a node with two children; the last arm is a parallel.
 fn with_two(kind: u16, p: Marked, q: Marked) -> Marked
     requires { ⌜ (6 ≤ kind) × (kind ≤ 8) ⌝ }
     ensures { λ m. ⌜ PartsFound kind p q m ⌝ }
@@ -255,7 +255,7 @@ fn note_leaf(notes: &mut [u16; table::MOST_NODES], at: usize, live: bool)
     notes[at] = noted::note_with(0, live, false, false);
 }
 
-// The note of a node that is no try: of its first child p, whether it can end.
+// The note of a node with children that is no try: of its first child p, whether it can end.
 fn note_child(notes: &mut [u16; table::MOST_NODES], at: usize, p: Marked, live: bool)
     requires { ⌜ (at < 1024) × (p .next ≤ 1024) ⌝ }
     ensures { λ _. ⌜ now (notes .exit) ≡ set (now (notes .entry)) at (noteWith (p .next) live (codesOf (p .d) .ends) (codesOf (p .s) .ends)) ⌝ }
@@ -276,18 +276,18 @@ fn note_try(notes: &mut [u16; table::MOST_NODES], at: usize, p: Marked)
 fn refused() -> Marked
     ensures { λ m. ⌜ m .next ≡ 1025 ⌝ }
 {
-    of_leaf(codes::just_ended(), no_exits(), reach::summary::REFUSED)
+    of_leaf(codes::just_ended(), no_exits(), reach::BEYOND)
 }
 
 // Whether a node of no kind was met on the way to the root.
 pub fn is_refused(root: Marked) -> bool
     ensures { λ r. ⌜ r ≡ eqb (root .next) 1025 ⌝ }
 {
-    root.next == reach::summary::REFUSED
+    root.next == reach::BEYOND
 }
 
 // What is found of the statement at a place, which is resumed from labels of `r`; on the way each node gets its note. The arms
-// are ranges and few single kinds, since a jump through a table of addresses is predicted badly.
+// are ranges where kinds are noted alike, since a jump through a table of addresses is predicted badly.
 pub fn mark_at(
     nodes: &[u16; table::MOST_NODES],
     at: usize,

@@ -22,14 +22,14 @@ staying-requires c κs = omega arith
 sub-rest : tie.Need-sub-rest
 sub-rest c = omega arith
 
-mul-copy : tie.Need-mul-copy
-mul-copy c = omega arith
+mul-shift : tie.Need-mul-shift
+mul-shift c = omega arith
 
-add-copy : tie.Need-add-copy
-add-copy c = omega arith
+add-shift : tie.Need-add-shift
+add-shift c = omega arith
 
-copy-requires : tie.Need-copy-requires
-copy-requires c κs =
+shift-requires : tie.Need-shift-requires
+shift-requires c κs =
     let s = c .before .before .before .before in
     let h = c .before .staying .ensures .0 in
     (omega (arith, s .pre .2, s .pre .3 .small), omega (arith, s .pre .2), λ k. omega (arith, s .pre .2))
@@ -39,7 +39,7 @@ merge-down-requires c κs =
     let u = c .before .before .before .before .before .before in
     let s = u .before .before in
     let k = c .before .before .before .before .before .staying in
-    split-made (s .args .area .now) _ (s .args .base) (s .args .n1) (s .args .n2) (k .result) (s .pre .3) (s .pre .0) (s .pre .1) (k .ensures .0) (k .ensures .1) (c .before .before .before .copy .ensures) (s .pre .2)
+    split-made (s .args .area .now) _ (s .args .base) (s .args .n1) (s .args .n2) (k .result) (s .pre .3) (s .pre .0) (s .pre .1) (k .ensures .0) (k .ensures .1) (c .before .before .before .shift .ensures) (s .pre .2)
 
 same-length : tie.Need-same-length
 same-length c = omega arith
@@ -49,7 +49,7 @@ returns c =
     let u = c .before .before .before .before .before .before in
     let s = u .before .before .before .before .before in
     let k = u .before .before .staying in
-    split-end (s .args .area .now) _ (s .args .base) (s .args .n1) (s .args .n2) (k .result) (s .pre .3) (s .pre .0) (s .pre .1) (k .ensures .0) (k .ensures .1) (u .copy .ensures) (c .before .before .merge-down .ensures)
+    split-end (s .args .area .now) _ (s .args .base) (s .args .n1) (s .args .n2) (k .result) (s .pre .3) (s .pre .0) (s .pre .1) (k .ensures .0) (k .ensures .1) (u .shift .ensures) (c .before .before .merge-down .ensures)
 
 pub merge-both-spec : {M : Type 1} → statement M
 merge-both-spec =
@@ -61,9 +61,9 @@ merge-both-spec =
     add-top
     staying-requires
     sub-rest
-    mul-copy
-    add-copy
-    copy-requires
+    mul-shift
+    add-shift
+    shift-requires
     merge-down-requires
     same-length
     returns)

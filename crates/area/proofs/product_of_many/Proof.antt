@@ -75,8 +75,8 @@ loop-again c =
     products-step (s .args .how) (s .args .area .now) (s .args .base) (s .args .n1) (s .args .n2) (u .before .before .loop .area) _ (u .before .before .loop .i)
     (u .before .before .loop .inv) (u .before .loop-test .taken) _ _ (c .before .before .before .add-pairs .ensures) (c .if1 .left)
 
-copy-requires : tie.Need-copy-requires Inv-loop μ-loop
-copy-requires c κs = let f = c .before .before .loop .inv in (omega (arith, f .same, f .fits), omega (arith, f .same, f .fits), λ h. absurd (omega arith))
+shift-requires : tie.Need-shift-requires Inv-loop μ-loop
+shift-requires c κs = let f = c .before .before .loop .inv in (omega (arith, f .same, f .fits), omega (arith, f .same, f .fits), λ h. absurd (omega arith))
 
 same-length-2 : tie.Need-same-length-2 Inv-loop μ-loop
 same-length-2 c = omega arith
@@ -87,7 +87,7 @@ returns-2 c =
     let s = u .before in
     products-end (s .args .how) (s .args .area .now) (s .args .base) (s .args .n1) (s .args .n2) (c .before .before .before .before .before .loop .area) _
     (c .before .before .before .before .before .loop .i) (c .before .before .before .before .before .loop .inv) (c .before .before .before .before .loop-test .left) _
-    (c .before .before .copy .ensures)
+    (c .before .before .shift .ensures)
 
 pub product-of-many-spec : {M : Type 1} → statement M
 product-of-many-spec =
@@ -113,6 +113,6 @@ product-of-many-spec =
     add-i
     loop-less
     loop-again
-    copy-requires
+    shift-requires
     same-length-2
     returns-2)

@@ -74,7 +74,7 @@ pub record Stored (a b : List ℕ) (q w l : ℕ) : Type 0 where
   pub high : (i : ℕ) → q + 2 ≤ i → getD b i 0 ≡ getD a i 0
 
 -- the n rows at f stand at t
-pub record Copied (a b : List ℕ) (t f n : ℕ) : Type 0 where
+pub record Shifted (a b : List ℕ) (t f n : ℕ) : Type 0 where
   pub same : length b ≡ length a
   pub low : Low t a b
   pub moved : rows b t n ≡ rows a f n

@@ -10,14 +10,14 @@ add-end c = search needs
 cast-put : tie.Need-cast-put
 cast-put c = search needs
 
-note-of-requires : tie.Need-note-of-requires
-note-of-requires c κs = search needs
+note-with-requires : tie.Need-note-with-requires
+note-with-requires c κs = search needs
 
 put-requires : tie.Need-put-requires
 put-requires c κs = search needs
 
 returns : tie.Need-returns
-returns c = put-as (c .put .ensures) (c .before .note-of .ensures)
+returns c = put-as (c .put .ensures) (c .before .note-with .ensures)
 
 pub put-leaf-spec : {M : Type 1} → statement M
-put-leaf-spec = tie.close (tie.spec add-end cast-put note-of-requires put-requires returns)
+put-leaf-spec = tie.close (tie.spec add-end cast-put note-with-requires put-requires returns)

@@ -2,8 +2,8 @@
 use mathlib.Core.Path.{refl}
 use Rattle.lister.specs.inner.Notes.{packedNote}
 use borrow.Author.Needs.{needs}
-use Rattle.lister.proofs.noted.note_of.Statement.{statement}
-use Rattle.lister.proofs.noted.note_of.Tie as tie
+use Rattle.lister.proofs.noted.note_with.Statement.{statement}
+use Rattle.lister.proofs.noted.note_with.Tie as tie
 
 mul-result : tie.Need-mul-result
 mul-result c = search needs
@@ -21,5 +21,5 @@ returns : tie.Need-returns
 unfolding packedNote
 returns c = refl
 
-pub note-of-spec : {M : Type 1} → statement M
-note-of-spec = tie.close (tie.spec mul-result add-result mul-result-2 add-result-2 returns)
+pub note-with-spec : {M : Type 1} → statement M
+note-with-spec = tie.close (tie.spec mul-result add-result mul-result-2 add-result-2 returns)

@@ -2,18 +2,18 @@
 use native.Mathlib.Omega.{arith}
 use Prim.Native.Nat.{_-_}
 use mathlib.Core.Path.{refl}
-use Rattle.area.proofs.Moves.{Copying, copying-step, copying-end, copied-there}
-use Rattle.area.proofs.copy.Statement.{statement}
-use Rattle.area.proofs.copy.Tie as tie
+use Rattle.area.proofs.Moves.{Shifting, shifting-step, shifting-end, shifted-there}
+use Rattle.area.proofs.shift.Statement.{statement}
+use Rattle.area.proofs.shift.Tie as tie
 
 abbrev Inv-loop : tie.InvT-loop
-Inv-loop area₀ t f n m j₀ area j = Copying area₀ area t f m j
+Inv-loop area₀ t f n m j₀ area j = Shifting area₀ area t f m j
 
 abbrev μ-loop : tie.MeasureT-loop
 μ-loop area₀ t f n m j₀ area j = m - j
 
 returns : tie.Need-returns Inv-loop μ-loop
-returns c = copied-there (c .before .args .area .now) (c .before .args .t) (c .before .args .f) (c .before .args .n) (c .if1 .taken)
+returns c = shifted-there (c .before .args .area .now) (c .before .args .t) (c .before .args .f) (c .before .args .n) (c .if1 .taken)
 
 mul-m : tie.Need-mul-m Inv-loop μ-loop
 mul-m c = omega arith
@@ -49,7 +49,7 @@ loop-again : tie.Need-loop-again Inv-loop μ-loop
 loop-again c =
     let s = c .before .before in
     let a = s .before .before in
-    copying-step (a .args .area .now) (s .loop .area) (a .args .t) (a .args .f) _ (s .loop .j) (s .loop .inv) (c .before .loop-test .taken) (a .pre .0) (a .pre .2)
+    shifting-step (a .args .area .now) (s .loop .area) (a .args .t) (a .args .f) _ (s .loop .j) (s .loop .inv) (c .before .loop-test .taken) (a .pre .0) (a .pre .2)
 
 same-length : tie.Need-same-length Inv-loop μ-loop
 same-length c = c .before .loop .inv .same
@@ -57,10 +57,10 @@ same-length c = c .before .loop .inv .same
 returns-2 : tie.Need-returns-2 Inv-loop μ-loop
 returns-2 c =
     let s = c .before .before .before in
-    copying-end (s .args .area .now) (c .before .loop .area) (s .args .t) (s .args .f) (s .args .n) (c .before .loop .j) (c .before .loop .inv) (c .loop-test .left)
+    shifting-end (s .args .area .now) (c .before .loop .area) (s .args .t) (s .args .f) (s .args .n) (c .before .loop .j) (c .before .loop .inv) (c .loop-test .left)
 
-pub copy-spec : {M : Type 1} → statement M
-copy-spec =
+pub shift-spec : {M : Type 1} → statement M
+shift-spec =
     tie.close
     (tie.spec
     Inv-loop
