@@ -63,7 +63,7 @@ fn put_refused(ends: &mut [u16; MOST_NODES], notes: &mut [u16; MOST_NODES], at: 
 
 // What is noted of the statement at a place, from what is noted of its children; so many pauses stand behind the node. The arms
 // are ranges where kinds do the same, and what is lent are arrays, for speed: an arm for each kind becomes a jump through a table of
-// addresses, which is predicted badly, and a slice goes through memory.
+// addresses, which was measured slower, and a slice goes through memory.
 fn note_at(
     node: u16,
     ends: &mut [u16; MOST_NODES],

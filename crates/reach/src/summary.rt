@@ -263,7 +263,7 @@ pub fn summary_at(
         table::GOTOPAUSE => of_gotopause(Label(operand), next),
         table::EMIT => of_nothing(next),
         table::EXIT => of_exit(Level(operand), next),
-        // With a name for what it gives, as in the other arms: the call alone was measured slower on every table.
+        // With a name for what it gives, as in the other arms: the call alone was measured slower on small tables.
         table::SIGNAL => {
             let p = summary_at(nodes, next, below, kept);
             p

@@ -287,7 +287,7 @@ pub fn is_refused(root: Marked) -> bool
 }
 
 // What is found of the statement at a place, which is resumed from labels of `r`; on the way each node gets its note. The arms
-// are ranges where kinds are noted alike, since a jump through a table of addresses is predicted badly.
+// are ranges where kinds are noted alike, since a jump through a table of addresses was measured slower.
 pub fn mark_at(
     nodes: &[u16; table::MOST_NODES],
     at: usize,
