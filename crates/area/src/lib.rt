@@ -10,7 +10,7 @@ ghost use lib.ListN.{length};
 ghost use Rattle.sets.specs.Set.{only};
 ghost use Rattle.esterel.specs.Reactions.{reachedTogether};
 ghost use Rattle.esterel.specs.Listing.{someEnds};
-ghost use Rattle.esterel.specs.inner.Conditions.{condition, clashes, forget as forgetOf};
+ghost use Rattle.esterel.specs.inner.Conditions.{condition, always, holds, clashes, forget as forgetOf};
 ghost use Rattle.esterel.specs.inner.Rows.{reactions, localRow};
 ghost use Rattle.esterel.specs.inner.CappedRows.{beforeRow, collectRows};
 ghost use Rattle.area.specs.inner.Layout.{conditionIn, packed};
@@ -119,6 +119,23 @@ fn clashing(w: u64) -> bool
 {
     let shared = on_in(w) & off_in(w);
     shared != 0
+}
+
+// Whether the row of a word has no condition.
+pub fn unconditional(w: u64) -> bool
+    ensures { λ r. ⌜ (r ≡ true → conditionIn w ≡ always) ⌝ }
+{
+    condition_in(w) == 0
+}
+
+// Whether a set of slots meets the condition of a word.
+pub fn met(w: u64, slots: u64) -> bool
+    ensures { λ r. ⌜ r ≡ holds (conditionIn w) slots ⌝ }
+{
+    if sets::minus(on_in(w), slots) != 0 {
+        return false;
+    }
+    off_in(w) & slots == 0
 }
 
 // Whether the row of a word ends.

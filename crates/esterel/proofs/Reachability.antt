@@ -7,10 +7,10 @@ use Prim.Native.Nat.{ℕ, zero, suc, _+_, _≤_, _<_}
 use native.Mathlib.Decide.{ℕ-discrete, decLe}
 use native.Mathlib.Omega.{arith}
 use lib.Dec.{eqb}
-use Rattle.sets.specs.Set.{has, _union_, Within}
+use Rattle.sets.specs.Set.{has, _union_, Within, count}
 use Rattle.sets.proofs.Booleans.{or-mono, and-both, and-cases, by-cond, clash, eqb-equal, differ-eqb}
 use Rattle.sets.proofs.Members.{has-empty, has-union, has-intersect, has-below, within-ext, within-union}
-use Rattle.sets.proofs.Counts.{count, count-within, count-more, count-empty, count-only, count-union, Lacks, lacking}
+use Rattle.sets.proofs.Counts.{count-within, count-more, count-empty, count-only, count-union, Lacks, lacking}
 use Rattle.esterel.specs.Statement.{Statement, nothing, pause, gotopause, emit, exit, signal, present, sequence, parallel, loop, try, pauses, pauseCount}
 use Rattle.esterel.specs.Codes.{Qualified, at, contains, labels, none, justEnded, join, minusZero, throughTry, s, d}
 use Rattle.esterel.specs.Reachability.{nextR, afterRounds, Reached, reachFrom, reach}

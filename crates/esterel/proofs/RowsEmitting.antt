@@ -12,8 +12,9 @@ use Rattle.esterel.specs.Statement.{Statement, nothing, pause, gotopause
 use Rattle.esterel.specs.Reactions.{State, Reaction, Derives, Reacts}
 use Rattle.esterel.specs.Reactions as rule
 use Rattle.esterel.specs.Listing.{Listed}
+use Rattle.esterel.specs.Stepping.{emittedFree}
 use Rattle.esterel.specs.inner.Conditions.{seen}
-use Rattle.esterel.specs.inner.Rows.{Row, rowsOf, Agree, Gives, mayEmit}
+use Rattle.esterel.specs.inner.Rows.{Row, rowsOf, Agree, Gives}
 use Rattle.esterel.proofs.Emitting.{emitted-assumed}
 use Rattle.esterel.proofs.Listing.{list-is-listing}
 use Rattle.esterel.proofs.Conditions.{either, in-left, in-right, other}
@@ -21,7 +22,7 @@ use Rattle.esterel.proofs.Unknown.{AreRows, rows-are, of-members, of-em
 
 -- a reaction emits no others
 abbrev Emits : ℕ → Statement → Type 0
-Emits O p = Within O (mayEmit p)
+Emits O p = Within O (emittedFree p)
 
 no-emits : (O m : ℕ) → O ≡ 0 → Within O m
 no-emits O m e x h = clash (sym (ap (λ (z : ℕ). has z x) e) ∙ h) (has-empty x)
@@ -49,28 +50,28 @@ absent-emits : (O E a S : ℕ) → Within O (E without S) → Within O a → Wit
 absent-emits O E a S g f x h = let (n, k) = other E S x (g x h) in has-without-other a S x n ∙ f x h
 
 pub emitted-may : (p : Statement) {x : State} {E O k L : ℕ} → Derives p x E O k L → Emits O p
-unfolding mayEmit
+unfolding emittedFree
 emitted-may nothing {O = O} (rule.nothing a b c) = no-emits O 0 a
 emitted-may (pause l) {O = O} (rule.pause a b c) = no-emits O 0 a
 emitted-may (pause l) {O = O} (rule.resume h a b c) = no-emits O 0 a
 emitted-may (gotopause l) {O = O} (rule.goto a b c) = no-emits O 0 a
 emitted-may (emit S) {O = O} (rule.emit h a b c) = λ x m. sym (ap (λ (z : ℕ). has z x) a) ∙ m
 emitted-may (exit d) {O = O} (rule.exit a b c) = no-emits O 0 a
-emitted-may (signal S p) {O = O} (rule.signal+ O₁ r h e) = kept-emits O O₁ (mayEmit p) S e (emitted-may p r)
-emitted-may (signal S p) {E = E} {O = O} (rule.signal- r) = absent-emits O E (mayEmit p) S (emitted-assumed r) (emitted-may p r)
-emitted-may (present S p q) {O = O} (rule.present h r) = wider-left O (mayEmit p) (mayEmit q) (emitted-may p r)
-emitted-may (present S p q) {O = O} (rule.absent h r) = wider-right O (mayEmit p) (mayEmit q) (emitted-may q r)
-emitted-may (present S p q) {O = O} (rule.present-left r) = wider-left O (mayEmit p) (mayEmit q) (emitted-may p r)
-emitted-may (present S p q) {O = O} (rule.present-right r) = wider-right O (mayEmit p) (mayEmit q) (emitted-may q r)
-emitted-may (sequence p q) {O = O} (rule.seq O₁ O₂ a b e) = two-emit O O₁ O₂ (mayEmit p) (mayEmit q) e (emitted-may p a) (emitted-may q b)
-emitted-may (sequence p q) {O = O} (rule.seq-left r h) = wider-left O (mayEmit p) (mayEmit q) (emitted-may p r)
-emitted-may (sequence p q) {O = O} (rule.seq-right r) = wider-right O (mayEmit p) (mayEmit q) (emitted-may q r)
+emitted-may (signal S p) {O = O} (rule.signal+ O₁ r h e) = kept-emits O O₁ (emittedFree p) S e (emitted-may p r)
+emitted-may (signal S p) {E = E} {O = O} (rule.signal- r) = absent-emits O E (emittedFree p) S (emitted-assumed r) (emitted-may p r)
+emitted-may (present S p q) {O = O} (rule.present h r) = wider-left O (emittedFree p) (emittedFree q) (emitted-may p r)
+emitted-may (present S p q) {O = O} (rule.absent h r) = wider-right O (emittedFree p) (emittedFree q) (emitted-may q r)
+emitted-may (present S p q) {O = O} (rule.present-left r) = wider-left O (emittedFree p) (emittedFree q) (emitted-may p r)
+emitted-may (present S p q) {O = O} (rule.present-right r) = wider-right O (emittedFree p) (emittedFree q) (emitted-may q r)
+emitted-may (sequence p q) {O = O} (rule.seq O₁ O₂ a b e) = two-emit O O₁ O₂ (emittedFree p) (emittedFree q) e (emitted-may p a) (emitted-may q b)
+emitted-may (sequence p q) {O = O} (rule.seq-left r h) = wider-left O (emittedFree p) (emittedFree q) (emitted-may p r)
+emitted-may (sequence p q) {O = O} (rule.seq-right r) = wider-right O (emittedFree p) (emittedFree q) (emitted-may q r)
 emitted-may (parallel p q) {O = O} (rule.par O₁ k₁ L₁ O₂ k₂ L₂ a b e f g) =
-    two-emit O O₁ O₂ (mayEmit p) (mayEmit q) e (emitted-may p a) (emitted-may q b)
-emitted-may (parallel p q) {O = O} (rule.par-left r h) = wider-left O (mayEmit p) (mayEmit q) (emitted-may p r)
-emitted-may (parallel p q) {O = O} (rule.par-right r h) = wider-right O (mayEmit p) (mayEmit q) (emitted-may q r)
+    two-emit O O₁ O₂ (emittedFree p) (emittedFree q) e (emitted-may p a) (emitted-may q b)
+emitted-may (parallel p q) {O = O} (rule.par-left r h) = wider-left O (emittedFree p) (emittedFree q) (emitted-may p r)
+emitted-may (parallel p q) {O = O} (rule.par-right r h) = wider-right O (emittedFree p) (emittedFree q) (emitted-may q r)
 emitted-may (loop p) (rule.no-loop r h) = emitted-may p r
-emitted-may (loop p) {O = O} (rule.loop O₁ O₂ a b h e) = one-emits O O₁ O₂ (mayEmit p) e (emitted-may p a) (emitted-may p b)
+emitted-may (loop p) {O = O} (rule.loop O₁ O₂ a b h e) = one-emits O O₁ O₂ (emittedFree p) e (emitted-may p a) (emitted-may p b)
 emitted-may (try p) (rule.try k₁ r e) = emitted-may p r
 
 agree-emitted : (U E I O : ℕ) → Agree U E I → Within O (U union I) → Agree U E (I union O)
@@ -87,7 +88,7 @@ of-free {M} {p} {x} {E} {U} h I a r f =
     (λ k. n .0 (m .0 k), λ k. m .1 (n .1 k))
 
 -- where every signal that p may emit is unknown or in I, that is all of them
-pub of-emitting : {M : ℕ} {p : Statement} {x : State} {E U : ℕ} {ws : List Row} → AreRows M p x E U ws → (I : ℕ) → Agree U E I → Within (mayEmit p) (U union I)
+pub of-emitting : {M : ℕ} {p : Statement} {x : State} {E U : ℕ} {ws : List Row} → AreRows M p x E U ws → (I : ℕ) → Agree U E I → Within (emittedFree p) (U union I)
     → (r : Reaction) → ((w : Row) × Listed w ws × Gives (seen M (I union r .emitted)) r w) ↔ Reacts p x (I union r .emitted) r
 unfolding Reacts
 of-emitting {M} {p} {x} {E} {U} {ws} h I a f r =
@@ -102,6 +103,6 @@ of-emitting {M} {p} {x} {E} {U} {ws} h I a f r =
         go true u e = in-left U I y u
         go false u e = in-right U I y (sym (a y u) ∙ e)
 
-pub rows-emitting : (M : ℕ) (p : Statement) (x : State) (E U I : ℕ) → Within U M → Agree U E I → Within (mayEmit p) (U union I) → (r : Reaction)
+pub rows-emitting : (M : ℕ) (p : Statement) (x : State) (E U I : ℕ) → Within U M → Agree U E I → Within (emittedFree p) (U union I) → (r : Reaction)
     → ((w : Row) × Listed w (rowsOf M p x E U) × Gives (seen M (I union r .emitted)) r w) ↔ Reacts p x (I union r .emitted) r
 rows-emitting M p x E U I v a f r = of-emitting (rows-are M p x E U v) I a f r

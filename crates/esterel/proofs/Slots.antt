@@ -5,7 +5,7 @@ use mathlib.Core.Bool.{Bool, true, false, cond, _&&_}
 use Prim.Native.Nat.{ℕ, zero, suc, _+_, _^_, _≤_, _<_}
 use native.Mathlib.Decide.{decLt}
 use native.Mathlib.Omega.{arith}
-use Rattle.sets.specs.Set.{has, only, _union_, _without_, Within}
+use Rattle.sets.specs.Set.{has, only, _union_, _without_, Within, count}
 use Rattle.sets.proofs.Booleans.{and-both, and-cases, not-true, clash, same-bool}
 use Rattle.sets.proofs.Members.{has-empty, has-only, has-only-equal, has-without-other, within-ext, has-below, fits, past-width}
 use Rattle.esterel.specs.inner.Conditions.{slotOf, seenBelow, seen}
@@ -15,7 +15,7 @@ use Rattle.esterel.proofs.Conditions.{either, in-left, in-right, other}
 -- ---- slots
 
 slot-mono : (M S T : ℕ) → S ≤ T → slotOf M S ≤ slotOf M T
-unfolding slotOf
+unfolding count
 slot-mono M S zero h = let e : S ≡ 0 = omega arith in let i : slotOf M S ≡ slotOf M 0 = ap (slotOf M) e in omega arith
 slot-mono M S (suc T) h = go (decLt S (suc T)) (λ l. slot-mono M S T l)
   where
@@ -24,7 +24,7 @@ slot-mono M S (suc T) h = go (decLt S (suc T)) (λ l. slot-mono M S T l)
     go (no l) ih = let e : S ≡ suc T = omega arith in let i : slotOf M S ≡ slotOf M (suc T) = ap (slotOf M) e in omega arith
 
 slot-rise : (M S T : ℕ) → has M S ≡ true → S < T → slotOf M S < slotOf M T
-unfolding slotOf
+unfolding count
 slot-rise M S T h l =
     let i = slot-mono M (suc S) T l in
     let j : slotOf M (suc S) ≡ slotOf M S + 1 = ap (λ b. slotOf M S + cond b 1 0) h in

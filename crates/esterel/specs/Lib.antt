@@ -5,4 +5,5 @@ pub mod Trimming
 pub mod Reactions
 pub mod Runs
 pub mod Listing
+pub mod Stepping
 pub mod inner

@@ -10,9 +10,9 @@ use lib.Dec.{eqb}
 use lib.ListN.{take, drop, getD}
 use lib.Seq.{drop-cons, drop-drop, getD-take, length-take-le}
 use borrow.Author.Tests.{eq-eqb, ne-eqb}
-use Rattle.sets.specs.Set.{has, only, _union_, Apart}
+use Rattle.sets.specs.Set.{has, only, _union_, Apart, count}
 use Rattle.sets.proofs.Members.{has-empty, has-union, has-only, has-only-other, empty-union, union-empty, union-assoc}
-use Rattle.sets.proofs.Counts.{count, count-more, count-width}
+use Rattle.sets.proofs.Counts.{count-more, count-width}
 use Rattle.esterel.proofs.Conditions.{in-left, in-right}
 use Rattle.esterel.specs.Statement.{Statement, nothing, pause, gotopause, emit, exit, signal, present, sequence, parallel, loop, try, pauses, Valid}
 use Rattle.table.specs.Reading.{kindOfNode, operandOf}

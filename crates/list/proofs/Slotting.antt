@@ -5,7 +5,7 @@ use mathlib.Core.Bool.{Bool, true, false, cond, _||_}
 use Prim.Native.Nat.{ℕ, zero, suc, _+_, _≤_, _<_}
 use native.Mathlib.Omega.{arith}
 use native.Mathlib.Decide.{ℕ-discrete}
-use Rattle.sets.specs.Set.{has, only, _union_}
+use Rattle.sets.specs.Set.{has, only, _union_, count}
 use Rattle.sets.proofs.Booleans.{or-cases, or-false, clash}
 use Rattle.sets.proofs.Members.{has-empty, has-union, has-only-equal, has-only-other}
 use Rattle.esterel.specs.inner.Conditions.{slotOf}
@@ -17,7 +17,7 @@ pub record Taken (M used : ℕ) : Type 0 where
   pub narrow : (S : ℕ) → has M S ≡ true → S < 32
 
 none-slotted : (n : ℕ) → slotOf 0 n ≡ 0
-unfolding slotOf
+unfolding count
 none-slotted zero = refl
 none-slotted (suc n) = ap₂ _+_ (none-slotted n) (ap (λ (z : Bool). cond z 1 0) (has-empty n))
 
@@ -29,7 +29,7 @@ module _ (M s : ℕ) where
   others n h = has-union M (only s) n ∙ ap (λ (z : Bool). has M n || z) (has-only-other s n h) ∙ or-false (has M n)
 
   slot-same : (n : ℕ) → n ≤ s → slotOf (M union only s) n ≡ slotOf M n
-  unfolding slotOf
+  unfolding count
   slot-same zero h = refl
   slot-same (suc n) h = ap₂ _+_ (slot-same n (omega arith)) (ap (λ (z : Bool). cond z 1 0) (others n (λ e. omega arith)))
 
@@ -38,7 +38,7 @@ module _ (M s : ℕ) where
   at-most-one false = omega arith
 
   slot-once : (n : ℕ) → slotOf (M union only s) n ≤ slotOf M n + 1
-  unfolding slotOf
+  unfolding count
   slot-once zero = omega arith
   slot-once (suc n) = go (slot-once n) (ℕ-discrete s n)
     where

@@ -1,45 +1,28 @@
 -- The slots of the signals that may be unknown: there are at most 12 of them.
 use mathlib.Core.Path.{_≡_, sym, ap, subst, _∙_}
-use mathlib.Core.Logic.{_⊎_, inl, inr}
 use mathlib.Core.Bool.{Bool, true, cond}
-use Prim.Native.Nat.{ℕ, zero, suc, _+_, _-_, _/_, _%_, _^_, _≤_, _<_}
+use Prim.Native.Nat.{ℕ, zero, suc, _+_, _-_, _%_, _^_, _≤_, _<_}
 use native.Mathlib.Omega.{arith}
-use native.Mathlib.Nat.{mod-lt}
-use lib.Dec.{eqb}
 use lib.Bits.{bitAnd, and-mask, and-le-l}
-use lib.Count.{onesIn, ones, ones-cat, ones-le}
-use lib.Pow.{pow-pos, mod-pow-add}
-use Rattle.sets.specs.Set.{has, only, _union_, Within}
+use lib.Count.{ones, ones-le}
+use lib.Pow.{pow-pos}
+use Rattle.sets.specs.Set.{has, only, _union_, Within, count}
 use Rattle.sets.proofs.Booleans.{clash}
-use Rattle.sets.proofs.Members.{bit, has-shift, has-empty, only-fits}
+use Rattle.sets.proofs.Counts.{ones-count}
+use Rattle.sets.proofs.Members.{has-empty, only-fits}
 use Rattle.esterel.specs.inner.Conditions.{slotOf}
 use Rattle.esterel.proofs.Unknown.{inside-too}
 use Rattle.lister.specs.inner.Slots.{Slotted}
 
 -- one more signal
 slot-next : (M S : ℕ) → slotOf M (S + 1) ≡ slotOf M S + cond (has M S) 1 0
-unfolding slotOf
+unfolding count
 slot-next M S = let e : S + 1 ≡ suc S = omega arith in ap (slotOf M) e
 
 -- ---- as the bits below the signal's own
-one-bit : (b : ℕ) → (b ≡ 0) ⊎ (b ≡ 1) → ones b ≡ cond (eqb b 1) 1 0
-unfolding ones onesIn
-one-bit b (inl e) = ap (λ (z : ℕ). ones z) e ∙ sym (ap (λ (z : ℕ). cond {A = ℕ} (eqb z 1) 1 0) e)
-one-bit b (inr e) = ap (λ (z : ℕ). ones z) e ∙ sym (ap (λ (z : ℕ). cond {A = ℕ} (eqb z 1) 1 0) e)
-
-slot-ones : (M S : ℕ) → ones (M % 2 ^ S) ≡ slotOf M S
-unfolding slotOf ones onesIn
-slot-ones M zero = let e : M % 2 ^ zero ≡ 0 = omega arith in ap (λ (z : ℕ). ones z) e
-slot-ones M (suc S) =
-    let e : suc S ≡ 1 + S = omega arith in
-    let b : ℕ = M / 2 ^ S % 2 in
-    let g : ones b ≡ cond (has M S) 1 0 = one-bit b (bit (M / 2 ^ S)) ∙ ap (λ (z : Bool). cond {A = ℕ} z 1 0) (sym (has-shift M S)) in
-    let s : ones b + ones (M % 2 ^ S) ≡ slotOf M S + cond (has M S) 1 0 = let h = slot-ones M S in omega arith in
-    ap (λ (z : ℕ). ones (M % 2 ^ z)) e ∙ ap ones (mod-pow-add M 1 S) ∙ ones-cat S b (M % 2 ^ S) (mod-lt M (pow-pos S)) ∙ s
-
 pub slot-count : (M S own : ℕ) → S < 64 → own ≡ only S % 2 ^ 64 → ones (bitAnd M (own - 1)) ≡ slotOf M S
 unfolding only
-slot-count M S own h e = ap (λ (z : ℕ). ones (bitAnd M (z - 1))) (e ∙ only-fits 64 S h) ∙ ap ones (and-mask M S) ∙ slot-ones M S
+slot-count M S own h e = ap (λ (z : ℕ). ones (bitAnd M (z - 1))) (e ∙ only-fits 64 S h) ∙ ap ones (and-mask M S) ∙ ones-count M S
 
 pub own-there : (S own : ℕ) → S < 64 → own ≡ only S % 2 ^ 64 → 1 ≤ own
 unfolding only
@@ -51,7 +34,7 @@ slot-short M b h = ones-le 64 (bitAnd M b) (let l = and-le-l M b in omega arith)
 -- ---- there are few
 
 slot-rises : (M S d : ℕ) → slotOf M S ≤ slotOf M (d + S)
-unfolding slotOf
+unfolding count
 slot-rises M S zero = let e : S ≡ zero + S = omega arith in subst (λ (z : ℕ). slotOf M S ≤ slotOf M z) e (omega arith)
 slot-rises M S (suc d) =
     let e : suc (d + S) ≡ suc d + S = omega arith in

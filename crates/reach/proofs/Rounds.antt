@@ -11,10 +11,10 @@ use native.Mathlib.Numerals.{add-one}
 use native.Mathlib.Omega.{arith}
 use lib.Bits.{bitAnd, bitXor}
 use lib.Dec.{eqb}
-use Rattle.sets.specs.Set.{has, only, _union_, _intersect_, _minus_, Within}
+use Rattle.sets.specs.Set.{has, only, _union_, _intersect_, _minus_, Within, count}
 use Rattle.sets.proofs.Booleans.{and-cases, and-both, clash}
 use Rattle.sets.proofs.Members.{ext, within-ext, has-union, has-intersect, has-minus, has-only, has-only-equal, has-empty, union-empty, union-assoc, past-width}
-use Rattle.sets.proofs.Counts.{count, count-width, count-within}
+use Rattle.sets.proofs.Counts.{count-width, count-within}
 use Rattle.esterel.specs.Statement.{Statement, nothing, pause, gotopause, emit, exit, signal, present, sequence, parallel, loop, try, pauses}
 use Rattle.esterel.specs.Codes.{Codes, Qualified, ended, at, plain, contains, none, justEnded, join, minusZero, throughTry, s, d}
 use Rattle.esterel.specs.Codes as codes

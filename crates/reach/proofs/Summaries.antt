@@ -9,10 +9,10 @@ use native.Mathlib.Decide.{ℕ-discrete}
 use native.Mathlib.Omega.{arith}
 use lib.ListN.{length, set, length-set}
 use lib.Seq.{getD-set-same, getD-set-other}
-use Rattle.sets.specs.Set.{has, only, _union_, _minus_, _without_, Within}
+use Rattle.sets.specs.Set.{has, only, _union_, _minus_, _without_, Within, count}
 use Rattle.sets.proofs.Booleans.{or-left, or-right, or-cases, or-false, and-cases, clash}
 use Rattle.sets.proofs.Members.{has-empty, has-union, has-minus, has-only, has-only-other, has-without-same, has-without-other}
-use Rattle.sets.proofs.Counts.{count, count-without}
+use Rattle.sets.proofs.Counts.{count-without}
 use Rattle.esterel.specs.Codes.{Codes, throughTry}
 use Rattle.reach.specs.declared.codes.CodeSet.{CodeSet}
 use Rattle.reach.specs.inner.CodeSets.{codesOf}

@@ -1,17 +1,17 @@
--- How many members a set has below w: a set strictly within another has fewer.
+-- How many members a set has below w: a set strictly within another has fewer; and how a word counts them.
 use mathlib.Core.Path.{_≡_, refl, sym, ap, _∙_}
 use mathlib.Core.Logic.{_⊎_, inl, inr}
 use mathlib.Core.Bool.{Bool, true, false, not, _||_, cond}
-use Prim.Native.Nat.{ℕ, zero, suc, _+_, _≤_, _<_}
+use Prim.Native.Nat.{ℕ, zero, suc, _+_, _/_, _%_, _^_, _≤_, _<_}
 use native.Mathlib.Decide.{ℕ-discrete}
+use native.Mathlib.Nat.{mod-lt, mod-eq-of-lt}
 use native.Mathlib.Omega.{arith}
-use Rattle.sets.specs.Set.{has, only, _union_, _without_, Within}
+use lib.Dec.{eqb}
+use lib.Count.{onesIn, ones, ones-cat}
+use lib.Pow.{pow-pos, mod-pow-add}
+use Rattle.sets.specs.Set.{has, only, _union_, _without_, Within, count}
 use Rattle.sets.proofs.Booleans.{and-cases, clash}
-use Rattle.sets.proofs.Members.{has-empty, has-union, has-minus, has-only, has-only-other, has-without-same}
-
-unfoldable pub count : ℕ → ℕ → ℕ
-count zero m = 0
-count (suc w) m = cond (has m w) 1 0 + count w m
+use Rattle.sets.proofs.Members.{bit, has-shift, has-empty, has-union, has-minus, has-only, has-only-other, has-without-same}
 
 bit-mono : (a b : Bool) → (a ≡ true → b ≡ true) → cond a 1 0 ≤ cond b 1 0
 bit-mono true true f = omega arith
@@ -90,3 +90,22 @@ pub count-union : (w a b : ℕ) → count w (a union b) ≤ count w a + count w 
 unfolding count
 count-union zero a b = omega arith
 count-union (suc w) a b = rw (has-union a b w) (let i = count-union w a b in let j = bit-or (has a w) (has b w) in omega arith)
+
+-- ---- as the ones among the lowest bits
+one-bit : (b : ℕ) → (b ≡ 0) ⊎ (b ≡ 1) → ones b ≡ cond (eqb b 1) 1 0
+unfolding ones onesIn
+one-bit b (inl e) = ap (λ (z : ℕ). ones z) e ∙ sym (ap (λ (z : ℕ). cond {A = ℕ} (eqb z 1) 1 0) e)
+one-bit b (inr e) = ap (λ (z : ℕ). ones z) e ∙ sym (ap (λ (z : ℕ). cond {A = ℕ} (eqb z 1) 1 0) e)
+
+pub ones-count : (M S : ℕ) → ones (M % 2 ^ S) ≡ count S M
+unfolding count ones onesIn
+ones-count M zero = let e : M % 2 ^ zero ≡ 0 = omega arith in ap (λ (z : ℕ). ones z) e
+ones-count M (suc S) =
+    let e : suc S ≡ 1 + S = omega arith in
+    let b : ℕ = M / 2 ^ S % 2 in
+    let g : ones b ≡ cond (has M S) 1 0 = one-bit b (bit (M / 2 ^ S)) ∙ ap (λ (z : Bool). cond {A = ℕ} z 1 0) (sym (has-shift M S)) in
+    let s : ones b + ones (M % 2 ^ S) ≡ count S M + cond (has M S) 1 0 = let h = ones-count M S in omega arith in
+    ap (λ (z : ℕ). ones (M % 2 ^ z)) e ∙ ap ones (mod-pow-add M 1 S) ∙ ones-cat S b (M % 2 ^ S) (mod-lt M (pow-pos S)) ∙ s
+
+pub count-ones : (w m : ℕ) → m < 2 ^ w → ones m ≡ count w m
+count-ones w m h = ap ones (sym (mod-eq-of-lt h)) ∙ ones-count m w

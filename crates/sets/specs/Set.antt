@@ -1,8 +1,8 @@
 -- A set of numbers is a number: bit x is 1 where x is in the set (document 01: "bit n for number n").
 -- Nothing here depends on a width. The laws, member by member, are in proofs/.
-use Prim.Native.Nat.{ℕ, zero, suc, _/_, _%_, _^_}
+use Prim.Native.Nat.{ℕ, zero, suc, _+_, _/_, _%_, _^_}
 use mathlib.Core.Path.{_≡_}
-use mathlib.Core.Bool.{Bool, true, false}
+use mathlib.Core.Bool.{Bool, true, false, cond}
 use lib.Bits.{bitOr, bitAnd, bitXor}
 use lib.Dec.{eqb}
 
@@ -39,3 +39,8 @@ Within a b = (x : ℕ) → has a x ≡ true → has b x ≡ true
 -- no member of a is in b
 abbrev pub Apart : ℕ → ℕ → Type 0
 Apart a b = (x : ℕ) → has a x ≡ true → has b x ≡ false
+
+-- how many members of m are below w
+unfoldable pub count : ℕ → ℕ → ℕ
+count zero m = 0
+count (suc w) m = count w m + cond (has m w) 1 0

@@ -3,7 +3,7 @@ ghost use mathlib.Core.Path.{_≡_};
 ghost use mathlib.Core.Logic.{_≢_};
 ghost use mathlib.Core.Bool.{true, false};
 ghost use Prim.Native.Nat.{ℕ, _%_, _^_, _<_};
-ghost use Rattle.sets.specs.Set.{has, only, _union_, _without_};
+ghost use Rattle.sets.specs.Set.{has, only, _union_, _without_, _minus_, count as countBelow};
 
 // Whether the number is in the set.
 pub fn contains(set: u64, number: u8) -> bool
@@ -45,4 +45,18 @@ pub fn without(set: u64, number: u8) -> u64
 {
     let own = singleton(number);
     set ^ (set & own)
+}
+
+// The set without the numbers of another.
+pub fn minus(set: u64, other: u64) -> u64
+    ensures { λ r. ⌜ r ≡ set minus other ⌝ }
+{
+    set ^ (set & other)
+}
+
+// How many numbers are in the set.
+pub fn count(set: u64) -> u8
+    ensures { λ r. ⌜ r ≡ countBelow 64 set ⌝ }
+{
+    u64::count_ones(set) as u8
 }

@@ -14,7 +14,8 @@ unfoldable pub numberOf : Outcome → ℕ
 numberOf (refusal w) = w
 numberOf (values vs) = 0
 
--- what a lent cell holds afterwards that held `old` and is for the i-th value, from 0: a refusal leaves it untouched
+-- what a lent cell holds afterwards that held `old` and is for the i-th value, from 0: a refusal leaves it untouched, and so does an
+-- answer without such a value
 unfoldable pub cellAfter : Outcome → ℕ → ℕ → ℕ
 cellAfter (refusal w) i old = old
-cellAfter (values vs) i old = getD vs i 0
+cellAfter (values vs) i old = getD vs i old

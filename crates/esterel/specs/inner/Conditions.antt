@@ -1,14 +1,13 @@
 -- Conditions on signals of which it is not known whether they are present. The signals that may be unknown are those of a set M. They
 -- have slots, and a condition is on slots, so that it takes few bits.
-use Prim.Native.Nat.{ℕ, zero, suc, _+_}
+use Prim.Native.Nat.{ℕ, zero, suc}
 use mathlib.Core.Bool.{Bool, cond, not, _&&_}
 use lib.Dec.{eqb}
-use Rattle.sets.specs.Set.{has, only, _union_, _intersect_, _minus_, _without_}
+use Rattle.sets.specs.Set.{has, only, count, _union_, _intersect_, _minus_, _without_}
 
 -- the slot of S: how many members of M are below S. Members of M have different slots (proofs/Slots).
-unfoldable pub slotOf : ℕ → ℕ → ℕ
-slotOf M zero = 0
-slotOf M (suc S) = slotOf M S + cond (has M S) 1 0
+abbrev pub slotOf : ℕ → ℕ → ℕ
+slotOf M S = count S M
 
 -- the slots of the members of M that F has and that are below n
 unfoldable pub seenBelow : ℕ → ℕ → ℕ → ℕ

@@ -170,19 +170,3 @@ Quiet M (loop p) start E U = Few M E U (rowsOf M (loop p) start E U) × Quiet M 
 Quiet M (loop p) (resumed X) E U =
     Few M E U (rowsOf M (loop p) (resumed X) E U) × Quiet M p (resumed X) E U × (someEnds (reactions (rowsOf M p (resumed X) E U)) ≡ true → Quiet M p start E U)
 Quiet M (try p) x E U = Few M E U (rowsOf M (try p) x E U) × Quiet M p x E U
-
--- ---- Emitted signals as unknown
-
--- the signals that p may emit: those that an emit in it names, outside a declaration of them
-unfoldable pub mayEmit : Statement → ℕ
-mayEmit nothing = 0
-mayEmit (pause l) = 0
-mayEmit (gotopause l) = 0
-mayEmit (emit S) = only S
-mayEmit (exit d) = 0
-mayEmit (signal S p) = mayEmit p without S
-mayEmit (present S p q) = mayEmit p union mayEmit q
-mayEmit (sequence p q) = mayEmit p union mayEmit q
-mayEmit (parallel p q) = mayEmit p union mayEmit q
-mayEmit (loop p) = mayEmit p
-mayEmit (try p) = mayEmit p

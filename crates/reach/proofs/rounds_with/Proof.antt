@@ -3,8 +3,7 @@
 use Prim.Native.Nat.{_-_}
 use native.Mathlib.Omega.{arith}
 use borrow.Author.Needs.{needs}
-use Rattle.sets.specs.Set.{_union_}
-use Rattle.sets.proofs.Counts.{count}
+use Rattle.sets.specs.Set.{_union_, count}
 use Rattle.table.specs.Reading.{deepest}
 use Rattle.table.specs.inner.Places.{statementAt, statementOf}
 use Rattle.reach.proofs.Rounds.{Going, few-rounds, none-yet, goes-on, falls, rests, not-refused}

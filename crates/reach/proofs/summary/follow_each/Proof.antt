@@ -1,7 +1,7 @@
 -- `summary::follow_each` meets its contract. The invariant: the labels of the set that are left are still to be changed. The
 -- measure is how many they are.
 use mathlib.Core.Path.{ap, _∙_}
-use Rattle.sets.proofs.Counts.{count}
+use Rattle.sets.specs.Set.{count}
 use Rattle.esterel.specs.Codes.{Codes, join, minusZero}
 use Rattle.reach.specs.inner.CodeSets.{codesOf}
 use Rattle.reach.proofs.Summaries.{Walking, walk-begins, walk-falls, walk-on, walk-ends}

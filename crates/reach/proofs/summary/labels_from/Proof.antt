@@ -1,6 +1,5 @@
 -- `summary::labels_from` meets its contract: each label of the set is still left, or its labels are in.
-use Rattle.sets.specs.Set.{_union_}
-use Rattle.sets.proofs.Counts.{count}
+use Rattle.sets.specs.Set.{_union_, count}
 use Rattle.reach.proofs.Summaries.{Gathering, walk-falls, gather-begins, gather-on, gather-ends}
 use Rattle.reach.proofs.summary.labels_from.Statement.{statement}
 use Rattle.reach.proofs.summary.labels_from.Tie as tie

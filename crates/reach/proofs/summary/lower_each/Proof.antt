@@ -2,8 +2,7 @@
 use mathlib.Core.Path.{ap, ap₂, _∙_}
 use mathlib.Core.Bool.{Bool, cond}
 use Prim.Native.Nat.{ℕ}
-use Rattle.sets.specs.Set.{_union_}
-use Rattle.sets.proofs.Counts.{count}
+use Rattle.sets.specs.Set.{_union_, count}
 use Rattle.sets.proofs.Members.{only-fits}
 use Rattle.esterel.specs.Codes.{throughTry}
 use Rattle.reach.proofs.Summaries.{Lowering, walk-falls, lower-begins, lower-on, lower-ends}

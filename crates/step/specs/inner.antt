@@ -1,0 +1,2 @@
+-- What inner functions ask of and leave to each other.
+pub mod Looking

@@ -1,0 +1,157 @@
+// Looking for steps under many assumed sets at once: those that agree with `assumed` outside `unknown`.
+use crate::Stepped;
+use list::State;
+use lister::COUNTS;
+use table::MOST_NODES;
+ghost use mathlib.Core.Path.{_≡_};
+ghost use Prim.Native.Nat.{ℕ, _*_, _≤_};
+ghost use lib.ListN.{length};
+ghost use Rattle.table.specs.inner.Places.{statementOf};
+ghost use Rattle.esterel.specs.inner.Conditions.{seen};
+ghost use Rattle.esterel.specs.Stepping.{one};
+ghost use Rattle.esterel.specs.inner.Stepping.{rowAssumed, rowSteps, rowsAnswer};
+ghost use Rattle.area.specs.inner.Layout.{packed};
+ghost use Rattle.area.specs.inner.Area.{rows};
+ghost use Rattle.lister.specs.inner.Notes.{Resumable};
+ghost use Rattle.list.specs.inner.Preparing.{stateIn};
+ghost use Rattle.step.specs.inner.Looking.{given, together, Unknowns, Looks};
+
+// The slots of the members of a set.
+fn slots_in(slotted: u64, set: u64) -> u64
+    ensures { λ r. ⌜ r ≡ seen slotted set ⌝ }
+{
+    let mut rest = slotted & set;
+    let mut slots = 0;
+    while rest != 0 {
+        let signal = sets::least(rest);
+        slots = sets::with(slots, lister::slot_of(slotted, signal));
+        rest = sets::without(rest, signal);
+    }
+    slots
+}
+
+// Whether the row of a word is a step: what is provided and what it emits agree with the assumed set on what is known, and meet its
+// condition.
+fn steps(w: u64, slotted: u64, provided: u32, assumed: u64, unknown: u64) -> bool
+    ensures { λ r. ⌜ (l : ℕ) → r ≡ rowSteps slotted provided assumed unknown (packed w l) ⌝ }
+{
+    let present = provided as u64 | area::emitted_in(w);
+    if sets::minus(present, unknown) != sets::minus(assumed, unknown) {
+        return false;
+    }
+    if area::unconditional(w) {
+        return true;
+    }
+    area::met(w, slots_in(slotted, present))
+}
+
+// The step of a row.
+fn step_of(w: u64, l: u64, provided: u32) -> Stepped
+    ensures { λ r. ⌜ r ≡ given (one (record { assumed = rowAssumed provided (packed w l); reaction = packed w l .reacts })) ⌝ }
+{
+    let emitted = area::emitted_in(w) as u32;
+    let code = area::code_in(w);
+    Stepped::One {
+        assumed: provided | emitted,
+        emitted,
+        code: code.0 as u8,
+        reached: l,
+    }
+}
+
+// What two answers come to together; the same reaction found twice is one.
+fn joined(first: Stepped, second: Stepped) -> Stepped
+    ensures { λ r. ⌜ r ≡ together first second ⌝ }
+{
+    match first {
+        Stepped::Refused(_) => first,
+        Stepped::None => second,
+        Stepped::Several => match second {
+            Stepped::Refused(_) => second,
+            _ => first,
+        },
+        Stepped::One {
+            assumed: _,
+            emitted: o,
+            code: k,
+            reached: l,
+        } => match second {
+            Stepped::Refused(_) => second,
+            Stepped::None => first,
+            Stepped::Several => second,
+            Stepped::One {
+                assumed: _,
+                emitted,
+                code,
+                reached,
+            } => if o == emitted && k == code && l == reached { first } else { Stepped::Several },
+        },
+    }
+}
+
+// The steps among the n rows at the front of an area.
+fn gather(area: &[u64], n: usize, slotted: u64, provided: u32, assumed: u64, unknown: u64) -> Stepped
+    requires { ⌜ 2 * n ≤ length (now area) ⌝ }
+    ensures { λ r. ⌜ r ≡ given (rowsAnswer slotted provided assumed unknown (rows (now (area .entry)) 0 n)) ⌝ }
+{
+    let mut found = Stepped::None;
+    let mut i = n;
+    while 0 < i {
+        i -= 1;
+        let w = area[2 * i];
+        if steps(w, slotted, provided, assumed, unknown) {
+            found = joined(step_of(w, area[2 * i + 1], provided), found);
+        }
+    }
+    found
+}
+
+// The steps under the sets that agree with `assumed` outside `unknown`: from one list of rows, or, where that gives up, with one
+// of the unknown signals present and with it absent. Under one set alone giving up is refusal 15.
+pub fn look(
+    nodes: &[u16; MOST_NODES],
+    ends: &[u16; MOST_NODES],
+    notes: &[u16; MOST_NODES],
+    unions: &[u64; COUNTS],
+    provided: u32,
+    assumed: u64,
+    unknown: u64,
+    state: State,
+    area: &mut [u64],
+) -> Stepped
+    requires { ⌜ (128 ≤ length (now area)) × Resumable (now nodes) (now ends) (now notes) (now unions) 0 × Unknowns assumed unknown ⌝ }
+    ensures { λ r. ⌜ Looks (statementOf (now (nodes .entry))) (stateIn state) provided assumed unknown r ⌝ }
+{
+    let slotted = list::slotted(nodes, ends, notes, unknown);
+    let mut n = list::rows_in(nodes, ends, notes, unions, slotted, assumed, unknown, state, area);
+    if area::OVER < n {
+        n = list::rows_large(nodes, ends, notes, unions, slotted, assumed, unknown, state, area);
+    }
+    if n <= area::MOST {
+        return gather(area, n, slotted, provided, assumed, unknown);
+    }
+    if n == area::REFUSED {
+        return Stepped::Refused(table::NO_KIND);
+    }
+    if unknown == 0 {
+        return Stepped::Refused(list::CROWDED);
+    }
+    let signal = sets::least(unknown);
+    let rest = sets::without(unknown, signal);
+    let present = look(
+        nodes,
+        ends,
+        notes,
+        unions,
+        provided,
+        sets::with(assumed, signal),
+        rest,
+        state,
+        area,
+    );
+    if crate::refusal(present) != 0 {
+        return present;
+    }
+    let absent = look(nodes, ends, notes, unions, provided, assumed, rest, state, area);
+    joined(present, absent)
+}
