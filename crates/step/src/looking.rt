@@ -33,7 +33,7 @@ fn slots_in(slotted: u64, set: u64) -> u64
 // Whether the row of a word is a step: what is provided and what it emits agree with the assumed set on what is known, and meet its
 // condition.
 fn steps(w: u64, slotted: u64, provided: u32, assumed: u64, unknown: u64) -> bool
-    ensures { λ r. ⌜ (l : ℕ) → r ≡ rowSteps slotted provided assumed unknown (packed w l) ⌝ }
+    ensures { λ r. ⌜ ((l : ℕ) → r ≡ rowSteps slotted provided assumed unknown (packed w l)) ⌝ }
 {
     let present = provided as u64 | area::emitted_in(w);
     if sets::minus(present, unknown) != sets::minus(assumed, unknown) {
@@ -84,13 +84,24 @@ fn joined(first: Stepped, second: Stepped) -> Stepped
                 emitted,
                 code,
                 reached,
-            } => if o == emitted && k == code && l == reached { first } else { Stepped::Several },
+            } => if o == emitted && k == code && l == reached {
+                first
+            } else {
+                Stepped::Several
+            },
         },
     }
 }
 
 // The steps among the n rows at the front of an area.
-fn gather(area: &[u64], n: usize, slotted: u64, provided: u32, assumed: u64, unknown: u64) -> Stepped
+fn gather(
+    area: &[u64],
+    n: usize,
+    slotted: u64,
+    provided: u32,
+    assumed: u64,
+    unknown: u64,
+) -> Stepped
     requires { ⌜ 2 * n ≤ length (now area) ⌝ }
     ensures { λ r. ⌜ r ≡ given (rowsAnswer slotted provided assumed unknown (rows (now (area .entry)) 0 n)) ⌝ }
 {
@@ -123,9 +134,29 @@ pub fn look(
     ensures { λ r. ⌜ Looks (statementOf (now (nodes .entry))) (stateIn state) provided assumed unknown r ⌝ }
 {
     let slotted = list::slotted(nodes, ends, notes, unknown);
-    let mut n = list::rows_in(nodes, ends, notes, unions, slotted, assumed, unknown, state, area);
+    let mut n = list::rows_in(
+        nodes,
+        ends,
+        notes,
+        unions,
+        slotted,
+        assumed,
+        unknown,
+        state,
+        area,
+    );
     if area::OVER < n {
-        n = list::rows_large(nodes, ends, notes, unions, slotted, assumed, unknown, state, area);
+        n = list::rows_large(
+            nodes,
+            ends,
+            notes,
+            unions,
+            slotted,
+            assumed,
+            unknown,
+            state,
+            area,
+        );
     }
     if n <= area::MOST {
         return gather(area, n, slotted, provided, assumed, unknown);
@@ -152,6 +183,16 @@ pub fn look(
     if crate::refusal(present) != 0 {
         return present;
     }
-    let absent = look(nodes, ends, notes, unions, provided, assumed, rest, state, area);
+    let absent = look(
+        nodes,
+        ends,
+        notes,
+        unions,
+        provided,
+        assumed,
+        rest,
+        state,
+        area,
+    );
     joined(present, absent)
 }
