@@ -3,6 +3,8 @@ use table::MOST_NODES;
 use table::kind_of;
 use table::operand_of;
 ghost use mathlib.Core.Path.{_≡_};
+ghost use Prim.Native.Nat.{ℕ};
+ghost use lib.ListN.{length, getD};
 ghost use Rattle.esterel.specs.Stepping.{emittedFree};
 ghost use Rattle.table.specs.inner.Places.{statementOf};
 ghost use Rattle.lister.specs.inner.Notes.{Startable};
@@ -16,24 +18,28 @@ fn emitted_with(
     ends: &[u16; MOST_NODES],
     until: &mut [u16; OPERANDS],
 ) -> u64
-    requires { ⌜ Startable (now nodes) (now ends) 0 ⌝ }
+    requires { ⌜ Startable (now nodes) (now ends) 0 × ((S : ℕ) → getD (now until) S 0 ≡ 0) × (length (now until) ≡ 64) ⌝ }
     ensures { λ r. ⌜ r ≡ emittedFree (statementOf (now (nodes .entry))) ⌝ }
 {
     let end = ends[0] as usize;
     let mut free = 0;
-    let mut at = 0;
-    while at < end {
+    let mut next = 0;
+    while next < end {
+        let at = next;
+        next += 1;
         let node = nodes[at];
         let signal = operand_of(node);
-        if until[signal as usize] as usize <= at {
-            if kind_of(node) == table::EMIT {
-                free = sets::with(free, signal);
-            }
-            if kind_of(node) == table::SIGNAL {
-                until[signal as usize] = ends[at];
-            }
+        if (at as u16) < until[signal as usize] {
+            continue;
         }
-        at += 1;
+        let kind = kind_of(node);
+        if kind == table::EMIT {
+            free = sets::with(free, signal);
+            continue;
+        }
+        if kind == table::SIGNAL {
+            until[signal as usize] = ends[at];
+        }
     }
     free
 }

@@ -1,20 +1,14 @@
 // Looking for steps under many assumed sets at once: those that agree with `assumed` outside `unknown`.
 use crate::Stepped;
-use list::State;
-use lister::COUNTS;
-use table::MOST_NODES;
 ghost use mathlib.Core.Path.{_≡_};
 ghost use Prim.Native.Nat.{ℕ, _*_, _≤_};
 ghost use lib.ListN.{length};
-ghost use Rattle.table.specs.inner.Places.{statementOf};
 ghost use Rattle.esterel.specs.inner.Conditions.{seen};
 ghost use Rattle.esterel.specs.Stepping.{one};
 ghost use Rattle.esterel.specs.inner.Stepping.{rowAssumed, rowSteps, rowsAnswer};
 ghost use Rattle.area.specs.inner.Layout.{packed};
 ghost use Rattle.area.specs.inner.Area.{rows};
-ghost use Rattle.lister.specs.inner.Notes.{Resumable};
-ghost use Rattle.list.specs.inner.Preparing.{stateIn};
-ghost use Rattle.step.specs.inner.Looking.{given, together, Unknowns, Looks};
+ghost use Rattle.step.specs.inner.Looking.{given, together};
 
 // The slots of the members of a set.
 fn slots_in(slotted: u64, set: u64) -> u64
@@ -68,7 +62,14 @@ fn joined(first: Stepped, second: Stepped) -> Stepped
         Stepped::None => second,
         Stepped::Several => match second {
             Stepped::Refused(_) => second,
-            _ => first,
+            Stepped::None => first,
+            Stepped::Several => first,
+            Stepped::One {
+                assumed: _,
+                emitted: _,
+                code: _,
+                reached: _,
+            } => first,
         },
         Stepped::One {
             assumed: _,
@@ -84,11 +85,18 @@ fn joined(first: Stepped, second: Stepped) -> Stepped
                 emitted,
                 code,
                 reached,
-            } => if o == emitted && k == code && l == reached {
+            } => {
+                if o != emitted {
+                    return Stepped::Several;
+                }
+                if k != code {
+                    return Stepped::Several;
+                }
+                if l != reached {
+                    return Stepped::Several;
+                }
                 first
-            } else {
-                Stepped::Several
-            },
+            }
         },
     }
 }
@@ -117,82 +125,3 @@ fn gather(
     found
 }
 
-// The steps under the sets that agree with `assumed` outside `unknown`: from one list of rows, or, where that gives up, with one
-// of the unknown signals present and with it absent. Under one set alone giving up is refusal 15.
-pub fn look(
-    nodes: &[u16; MOST_NODES],
-    ends: &[u16; MOST_NODES],
-    notes: &[u16; MOST_NODES],
-    unions: &[u64; COUNTS],
-    provided: u32,
-    assumed: u64,
-    unknown: u64,
-    state: State,
-    area: &mut [u64],
-) -> Stepped
-    requires { ⌜ (128 ≤ length (now area)) × Resumable (now nodes) (now ends) (now notes) (now unions) 0 × Unknowns assumed unknown ⌝ }
-    ensures { λ r. ⌜ Looks (statementOf (now (nodes .entry))) (stateIn state) provided assumed unknown r ⌝ }
-{
-    let slotted = list::slotted(nodes, ends, notes, unknown);
-    let mut n = list::rows_in(
-        nodes,
-        ends,
-        notes,
-        unions,
-        slotted,
-        assumed,
-        unknown,
-        state,
-        area,
-    );
-    if area::OVER < n {
-        n = list::rows_large(
-            nodes,
-            ends,
-            notes,
-            unions,
-            slotted,
-            assumed,
-            unknown,
-            state,
-            area,
-        );
-    }
-    if n <= area::MOST {
-        return gather(area, n, slotted, provided, assumed, unknown);
-    }
-    if n == area::REFUSED {
-        return Stepped::Refused(table::NO_KIND);
-    }
-    if unknown == 0 {
-        return Stepped::Refused(list::CROWDED);
-    }
-    let signal = sets::least(unknown);
-    let rest = sets::without(unknown, signal);
-    let present = look(
-        nodes,
-        ends,
-        notes,
-        unions,
-        provided,
-        sets::with(assumed, signal),
-        rest,
-        state,
-        area,
-    );
-    if crate::refusal(present) != 0 {
-        return present;
-    }
-    let absent = look(
-        nodes,
-        ends,
-        notes,
-        unions,
-        provided,
-        assumed,
-        rest,
-        state,
-        area,
-    );
-    joined(present, absent)
-}

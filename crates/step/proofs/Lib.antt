@@ -1,0 +1,4 @@
+pub mod Scanning
+pub mod Slots
+pub mod Rows
+pub mod Joins
