@@ -15,7 +15,6 @@ pub mod Order
 pub mod Listing
 pub mod Needed
 pub mod Ignored
-pub mod Indistinguishable
 pub mod Conditions
 pub mod Emitting
 pub mod Bounds
@@ -34,4 +33,7 @@ pub mod CappedRows
 pub mod AbsentRows
 pub mod RowExamples
 pub mod Stepping
+pub mod Limits
+pub mod Indistinguishable
 pub mod Looking
+pub mod StepExamples

@@ -1,23 +1,22 @@
 -- Looking for steps with signals unknown: one list of rows says what there is of steps under all sets that agree with A outside U, and
 -- what was found with a signal of U present and with it absent is put together. With all unknown that may be, it is the answer.
 use mathlib.Core.Path.{_≡_, refl, sym, ap, _∙_, subst}
-use mathlib.Core.Logic.{_↔_, _≢_, _⊎_, inl, inr}
-use mathlib.Core.Bool.{Bool, true, false, cond, not, _&&_}
+use mathlib.Core.Logic.{_≢_, _⊎_, inl, inr}
+use mathlib.Core.Bool.{Bool, true, false, cond}
 use mathlib.Core.List.{List, [], _∷_}
 use mathlib.Core.Option.{none, some, Option·none-ne-some}
-use Prim.Native.Nat.{ℕ, _<_}
+use Prim.Native.Nat.{ℕ}
 use native.Mathlib.Decide.{ℕ-discrete}
 use lib.Dec.{eqb}
 use Rattle.sets.specs.Set.{has, only, _union_, _minus_, _without_, Within}
 use Rattle.sets.proofs.Booleans.{and-both, and-cases, not-true, clash, eqb-equal, eqb-same}
 use Rattle.sets.proofs.Members.{has-minus-in, has-minus-out, has-only, has-without-other, ext}
 use Rattle.esterel.specs.Statement.{Statement}
-use Rattle.esterel.specs.Reactions.{State, Reaction, Reacts}
+use Rattle.esterel.specs.Reactions.{State, Reaction}
 use Rattle.esterel.specs.Runs.{Step}
 use Rattle.esterel.specs.Listing.{Listed, listing}
 use Rattle.esterel.specs.Listing as listing
-use Rattle.esterel.specs.Stepping.{StepFrom, Answer, one, several, Says, emittedFree, lookedAt, joined, stepping, crowdedFrom}
-use Rattle.esterel.specs.Stepping as answer
+use Rattle.esterel.specs.Stepping.{StepFrom, Answer, Says, emittedFree, signals, lookedAt, joined, stepping, crowdedFrom}
 use Rattle.esterel.specs.inner.Conditions.{seen, holds}
 use Rattle.esterel.specs.inner.Rows.{Row, Agree}
 use Rattle.esterel.specs.inner.CappedRows.{reactionsIn, cappedRows}
@@ -180,10 +179,10 @@ pub looked-whole : (p : Statement) (x : State) (I : ℕ) (v : Found) → FreeSig
     → v ≡ cond (crowdedFrom p x I) crowded (answer (stepping p x I))
 unfolding crowdedFrom lookedAt
 looked-whole p x I v f (over E a c) =
-    ap (λ z. cond z crowded (answer (stepping p x I))) (sym (some-in (listing.crowded p x) E (lookedAt p I) (made-agree 32 I (emittedFree p) E f .1 a) c))
+    ap (λ z. cond z crowded (answer (stepping p x I))) (sym (some-in (listing.crowded p x) E (lookedAt p I) (made-agree signals I (emittedFree p) E f .1 a) c))
 looked-whole p x I v f (within a h q) =
     ap answer (answer-unique (StepFrom p x I) a (stepping p x I) (says-as a (λ t. (λ m. m .from, λ m. record { from = m; agrees = step-agrees p x I t m })) h) (stepping-is p x I f))
     ∙ ap (λ z. cond z crowded (answer (stepping p x I))) (sym quiet)
   where
     quiet : crowdedFrom p x I ≡ false
-    quiet = not-true (crowdedFrom p x I) (λ e. let (E, m, c) = some-out (listing.crowded p x) (lookedAt p I) e in clash c (q E (made-agree 32 I (emittedFree p) E f .0 m)))
+    quiet = not-true (crowdedFrom p x I) (λ e. let (E, m, c) = some-out (listing.crowded p x) (lookedAt p I) e in clash c (q E (made-agree signals I (emittedFree p) E f .0 m)))
