@@ -1,22 +1,21 @@
 -- The signals that may be unknown, taken one by one: each takes one slot at most.
-use mathlib.Core.Path.{_≡_, refl, sym, ap, ap₂, _∙_, subst}
+use mathlib.Core.Path.{_≡_, sym, ap, _∙_, subst}
 use mathlib.Core.Logic.{_⊎_, inl, inr}
-use mathlib.Core.Bool.{Bool, true, false, cond, _||_}
+use mathlib.Core.Bool.{Bool, true, false, cond}
 use mathlib.Core.List.{List}
 use Prim.Native.Nat.{ℕ, zero, suc, _+_, _≤_, _<_}
 use native.Mathlib.Omega.{arith}
-use native.Mathlib.Decide.{ℕ-discrete}
 use lib.ListN.{getD}
 use Rattle.sets.specs.Set.{has, only, _union_, Within, count}
-use Rattle.sets.proofs.Booleans.{not-true, or-cases, or-false, clash}
-use Rattle.sets.proofs.Counts.{count-empty}
-use Rattle.sets.proofs.Members.{has-empty, has-union, has-only-equal, has-only-other}
+use Rattle.sets.proofs.Booleans.{not-true, or-cases, clash}
+use Rattle.sets.proofs.Counts.{count-empty, count-only, count-union}
+use Rattle.sets.proofs.Members.{has-empty, has-union, has-only-equal}
 use Rattle.esterel.specs.inner.Conditions.{slotOf}
 use Rattle.esterel.proofs.Conditions.{in-left}
 use Rattle.lister.specs.inner.Notes.{EndsFrom, Startable}
 use Rattle.lister.specs.inner.Slots.{Slotted}
 
--- a set has no more members past those it has
+-- where all members are below v, counting further finds no more
 pub count-narrow : (m v d : ℕ) → ((x : ℕ) → has m x ≡ true → x < v) → count (d + v) m ≡ count v m
 unfolding count
 count-narrow m v zero h = let e : zero + v ≡ v = omega arith in ap (λ (w : ℕ). count w m) e
@@ -39,47 +38,19 @@ taken-none {U} s e =
     let g = s .few in
     (omega arith, record { fits = omega arith; narrow = s .narrow; within = s .within })
 
-module _ (M s : ℕ) where
-  others : (n : ℕ) → (s ≡ n → ⊥) → has (M union only s) n ≡ has M n
-  others n h = has-union M (only s) n ∙ ap (λ (z : Bool). has M n || z) (has-only-other s n h) ∙ or-false (has M n)
-
-  slot-same : (n : ℕ) → n ≤ s → slotOf (M union only s) n ≡ slotOf M n
-  unfolding count
-  slot-same zero h = refl
-  slot-same (suc n) h = ap₂ _+_ (slot-same n (omega arith)) (ap (λ (z : Bool). cond z 1 0) (others n (λ e. omega arith)))
-
-  at-most-one : (b : Bool) → cond b 1 0 ≤ 1
-  at-most-one true = omega arith
-  at-most-one false = omega arith
-
-  slot-once : (n : ℕ) → slotOf (M union only s) n ≤ slotOf M n + 1
-  unfolding count
-  slot-once zero = omega arith
-  slot-once (suc n) = go (slot-once n) (ℕ-discrete s n)
-    where
-      go : slotOf (M union only s) n ≤ slotOf M n + 1 → Dec (s ≡ n)
-          → slotOf (M union only s) n + cond (has (M union only s) n) 1 0 ≤ slotOf M n + cond (has M n) 1 0 + 1
-      go f (yes e) =
-          let d = slot-same n (omega arith) in
-          let g = at-most-one (has (M union only s) n) in
-          omega arith
-      go f (no h) =
-          let g : _≡_ {A = ℕ} (cond (has (M union only s) n) 1 0) (cond (has M n) 1 0) = ap (λ (z : Bool). cond z 1 0) (others n h) in
-          omega arith
-
-  narrow-more : ((S : ℕ) → has M S ≡ true → S < 32) → s < 32 → (S : ℕ) → has (M union only s) S ≡ true → S < 32
-  narrow-more f h S e = go (or-cases (has M S) (has (only s) S) (sym (has-union M (only s) S) ∙ e))
-    where
-      go : (has M S ≡ true) ⊎ (has (only s) S ≡ true) → S < 32
-      go (inl g) = f S g
-      go (inr g) = let q = has-only-equal s S g in omega arith
+narrow-more : (M s : ℕ) → ((S : ℕ) → has M S ≡ true → S < 32) → s < 32 → (S : ℕ) → has (M union only s) S ≡ true → S < 32
+narrow-more M s f h S e = go (or-cases (has M S) (has (only s) S) (sym (has-union M (only s) S) ∙ e))
+  where
+    go : (has M S ≡ true) ⊎ (has (only s) S ≡ true) → S < 32
+    go (inl g) = f S g
+    go (inr g) = let q = has-only-equal s S g in omega arith
 
 pub taken-more : {U M N used : ℕ} (s : ℕ) → Taken U M used → s < 32 → N ≡ M union only s → Taken U N (used + 1)
 taken-more {U} {M} {N} {used} s t h e = subst (λ (L : ℕ). Taken U L (used + 1)) (sym e) more
   where
     more : Taken U (M union only s) (used + 1)
     more = record {
-      fits = let e = slot-once M s 32 in let f = t .fits in omega arith;
+      fits = let e = count-union 32 M (only s) in let g = count-only 32 s in let f = t .fits in omega arith;
       narrow = narrow-more M s (t .narrow) h;
       within = λ S e. in-left M (only s) S (t .within S e);
     }
