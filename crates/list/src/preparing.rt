@@ -85,7 +85,8 @@ pub fn prepare(
     let Checked::Accepted(n) = checked else {
         return Prepared::Refused(table::refusal(checked));
     };
-    note_all(nodes, n as usize, ends, notes, unions);
+    let count = n as usize;
+    note_all(nodes, count, ends, notes, unions);
     let nest = nest_of(notes[0]);
     if nest == NO_NEST {
         return Prepared::Refused(table::NO_KIND);
