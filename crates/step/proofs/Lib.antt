@@ -2,3 +2,4 @@ pub mod Scanning
 pub mod Slots
 pub mod Rows
 pub mod Joins
+pub mod Splits

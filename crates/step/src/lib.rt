@@ -8,14 +8,13 @@ mod free;
 mod looking;
 
 use list::Prepared;
-use list::State;
 use lister::COUNTS;
 use table::MOST_NODES;
 ghost use mathlib.Core.Path.{_≡_};
 ghost use Prim.Native.Nat.{_≤_};
 ghost use lib.ListN.{length};
 ghost use Rattle.table.specs.Outcomes.{numberOf};
-ghost use Rattle.list.specs.inner.Preparing.{stateIn, Rooms};
+ghost use Rattle.list.specs.inner.Preparing.{Rooms};
 ghost use Rattle.step.specs.Answers.{stepOf, steppedOutcome};
 
 // "17 if over 10 different signals are emitted outside a declaration of them"
@@ -83,7 +82,7 @@ fn step_with(
                 ends,
                 notes,
                 unions,
-                given,
+                provided,
                 given,
                 unknown,
                 list::state_of(mark, labels),

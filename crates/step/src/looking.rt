@@ -1,14 +1,21 @@
 // Looking for steps under many assumed sets at once: those that agree with `assumed` outside `unknown`.
 use crate::Stepped;
+use list::State;
+use lister::COUNTS;
+use table::MOST_NODES;
 ghost use mathlib.Core.Path.{_≡_};
 ghost use Prim.Native.Nat.{ℕ, _*_, _≤_};
 ghost use lib.ListN.{length};
+ghost use Rattle.table.specs.inner.Places.{statementOf};
 ghost use Rattle.esterel.specs.inner.Conditions.{seen};
 ghost use Rattle.esterel.specs.Stepping.{one};
+ghost use Rattle.esterel.specs.inner.CappedRows.{cappedRows};
 ghost use Rattle.esterel.specs.inner.Stepping.{rowAssumed, rowSteps, rowsAnswer};
 ghost use Rattle.area.specs.inner.Layout.{packed};
-ghost use Rattle.area.specs.inner.Area.{rows};
-ghost use Rattle.step.specs.inner.Looking.{given, together};
+ghost use Rattle.area.specs.inner.Area.{rows, Made};
+ghost use Rattle.lister.specs.inner.Notes.{Resumable};
+ghost use Rattle.list.specs.inner.Preparing.{stateIn, Listable};
+ghost use Rattle.step.specs.inner.Looking.{given, together, Unknowns, Looks};
 
 // The slots of the members of a set.
 fn slots_in(slotted: u64, set: u64) -> u64
@@ -125,3 +132,108 @@ fn gather(
     found
 }
 
+// The rows of a state, in the lent area, or through a larger one where that is too small.
+fn rows_of(
+    nodes: &[u16; MOST_NODES],
+    ends: &[u16; MOST_NODES],
+    notes: &[u16; MOST_NODES],
+    unions: &[u64; COUNTS],
+    slotted: u64,
+    assumed: u64,
+    unknown: u64,
+    state: State,
+    area: &mut [u64],
+) -> usize
+    requires { ⌜ (128 ≤ length (now area)) × Listable (now nodes) (now ends) (now notes) (now unions) slotted unknown ⌝ }
+    ensures { λ r. ⌜ Made (now (area .entry)) (now (area .exit)) 0 0 (cappedRows slotted (statementOf (now (nodes .entry))) (stateIn state) assumed unknown) r ⌝ }
+{
+    let n = list::rows_in(
+        nodes,
+        ends,
+        notes,
+        unions,
+        slotted,
+        assumed,
+        unknown,
+        state,
+        area,
+    );
+    if n <= area::OVER {
+        return n;
+    }
+    list::rows_large(
+        nodes,
+        ends,
+        notes,
+        unions,
+        slotted,
+        assumed,
+        unknown,
+        state,
+        area,
+    )
+}
+
+// The steps under the sets that agree with `assumed` outside `unknown`: from one list of rows, or, where that gives up, with one
+// of the unknown signals present and with it absent. Under one set alone giving up is refusal 15.
+pub fn look(
+    nodes: &[u16; MOST_NODES],
+    ends: &[u16; MOST_NODES],
+    notes: &[u16; MOST_NODES],
+    unions: &[u64; COUNTS],
+    provided: u32,
+    assumed: u64,
+    unknown: u64,
+    state: State,
+    area: &mut [u64],
+) -> Stepped
+    requires { ⌜ (128 ≤ length (now area)) × Resumable (now nodes) (now ends) (now notes) (now unions) 0 × Unknowns assumed unknown ⌝ }
+    ensures { λ r. ⌜ Looks (statementOf (now (nodes .entry))) (stateIn state) provided assumed unknown r ⌝ }
+{
+    let slotted = list::slotted(nodes, ends, notes, unknown);
+    let n = rows_of(
+        nodes,
+        ends,
+        notes,
+        unions,
+        slotted,
+        assumed,
+        unknown,
+        state,
+        area,
+    );
+    if n <= area::MOST {
+        return gather(area, n, slotted, provided, assumed, unknown);
+    }
+    if unknown == 0 {
+        return Stepped::Refused(list::CROWDED);
+    }
+    let signal = sets::least(unknown);
+    let rest = sets::without(unknown, signal);
+    let present = look(
+        nodes,
+        ends,
+        notes,
+        unions,
+        provided,
+        sets::with(assumed, signal),
+        rest,
+        state,
+        area,
+    );
+    if crate::refusal(present) != 0 {
+        return present;
+    }
+    let absent = look(
+        nodes,
+        ends,
+        notes,
+        unions,
+        provided,
+        assumed,
+        rest,
+        state,
+        area,
+    );
+    joined(present, absent)
+}
