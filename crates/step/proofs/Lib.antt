@@ -3,3 +3,4 @@ pub mod Slots
 pub mod Rows
 pub mod Joins
 pub mod Splits
+pub mod Answers

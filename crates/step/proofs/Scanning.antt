@@ -186,7 +186,7 @@ module _ (S : ℕ) (xs ends : List ℕ) where
     scans-own p k h n ih m =
         let inner : Met = met (m .free) (getD ends at 0) in
         let opened : m .until ≤ at → after (signal S p) at m ≡ inner = λ l.
-            first (signal S p) (size p) m refl ∙ ap (after p (at + 1)) (node-signal S xs ends at m k h l) ∙ ih inner .inside (omega arith) in
+        first (signal S p) (size p) m refl ∙ ap (after p (at + 1)) (node-signal S xs ends at m k h l) ∙ ih inner .inside (omega arith) in
         record {
           inside = λ l. first (signal S p) (size p) m refl ∙ ap (after p (at + 1)) (node-hidden S xs ends at m (omega arith)) ∙ ih m .inside (omega arith);
           outside = λ l. ap (λ (z : Met). z .free) (opened l) ∙ sym (ap (λ (z : Bool). m .free || z) (has-without-same (emittedFree p) S) ∙ or-false (m .free));
@@ -207,7 +207,7 @@ module _ (S : ℕ) (xs ends : List ℕ) where
     scans-two f p q s g h ih jh m =
         let mid : Met = after p (at + 1) m in
         let e : after (f p q) at m ≡ after q (at + 1 + size p) mid =
-            first (f p q) (size p + size q) m s ∙ ap (scan S xs ends (at + 1) (size p + size q)) (h m) ∙ scan-split S xs ends (at + 1) (size p) (size q) m in
+        first (f p q) (size p + size q) m s ∙ ap (scan S xs ends (at + 1) (size p + size q)) (h m) ∙ scan-split S xs ends (at + 1) (size p) (size q) m in
         let c = ih m in
         let d = jh mid in
         record {

@@ -1,62 +1,82 @@
+-- By what was prepared, the number of signals that are emitted free, and what looking comes to.
+use native.Mathlib.Omega.{arith}
+use Rattle.step.proofs.Answers.{unready-step, many-step, few-unknown, looked-step}
 use borrow.Author.Needs.{needs}
 use Rattle.step.proofs.step_with.Statement.{statement}
 use Rattle.step.proofs.step_with.Tie as tie
-use Rattle.step.proofs.step_with.Reads as reads
-use Rattle.step.proofs.step_with.Lts as lts
-use Rattle.list.proofs.prepare.Reads as prepare-reads
-use Rattle.list.proofs.state_of.Reads as state-of-reads
-use Rattle.sets.proofs.count.Reads as count-reads
-use Rattle.sets.proofs.minus.Reads as minus-reads
-use Rattle.step.proofs.free.emitted_free.Reads as emitted-free-reads
-use Rattle.step.proofs.looking.look.Reads as look-reads
 
--- src/lib.rt:70:9
 prepare-requires : tie.Need-prepare-requires
 prepare-requires c κs = search needs
 
--- src/lib.rt:72:27
 enum-known-prepared : tie.Need-enum-known-prepared
 enum-known-prepared c = search needs
 
--- src/lib.rt:74:43
 enum-told : tie.Need-enum-told
 enum-told c = search needs
 
--- src/lib.rt:74:17
 emitted-free-requires : tie.Need-emitted-free-requires
-emitted-free-requires c κs = ?
+emitted-free-requires c κs =
+    let at-enum-told = c .before .before in
+    let at-prepare = at-enum-told .before .before in
+    at-prepare .prepare .ensures .accepts (at-enum-told .enum-told .given .1) .noted .ready
 
--- src/lib.rt:75:28
 count-requires : tie.Need-count-requires
 count-requires c κs = search needs
 
--- src/lib.rt:76:17
 returns : tie.Need-returns
-returns c = ?
+returns c =
+    let at-count = c .before in
+    let at-emitted-free = at-count .before in
+    let at-enum-told = at-emitted-free .before .before .before in
+    let at-prepare = at-enum-told .before .before in
+    let s = at-prepare .before .before .before .before .before .before .before in
+    let ready = at-prepare .prepare .ensures .accepts (at-enum-told .enum-told .given .1) in
+    many-step (s .args .table .now) (s .args .provided) (s .args .mark) (s .args .labels) ready (at-emitted-free .emitted-free .ensures) (at-count .count .ensures) (c .if1 .taken)
 
--- src/lib.rt:79:17
 minus-requires : tie.Need-minus-requires
 minus-requires c κs = search needs
 
--- src/lib.rt:88:17
 state-of-requires : tie.Need-state-of-requires
 state-of-requires c κs = search needs
 
--- src/lib.rt:80:13
 look-requires : tie.Need-look-requires
-look-requires c κs = ?
+look-requires c κs =
+    let at-minus = c .before .before .before .before .before .before in
+    let at-count = at-minus .before .before in
+    let at-emitted-free = at-count .before in
+    let at-enum-told = at-emitted-free .before .before .before in
+    let at-prepare = at-enum-told .before .before in
+    let s = at-prepare .before .before .before .before .before .before .before in
+    let ready = at-prepare .prepare .ensures .accepts (at-enum-told .enum-told .given .1) in (
+      s .pre .0,
+      ready .noted,
+      few-unknown (s .args .table .now) (s .args .provided) (s .args .mark) (s .args .labels) ready
+          (at-emitted-free .emitted-free .ensures) (at-count .count .ensures) (at-minus .minus .ensures) (omega (arith, at-minus .before .if1 .left)),
+    )
 
--- src/lib.rt:56:1
 returns-2 : tie.Need-returns-2
-returns-2 c = ?
+returns-2 c =
+    let at-prepared = c .before in
+    let at-prepare = at-prepared .before .before in
+    let s = at-prepare .before .before .before .before .before .before .before in
+    unready-step (s .args .table .now) (s .args .provided) (s .args .mark) (s .args .labels) (at-prepare .prepare .ensures .refuses _ (at-prepared .prepared .given .1))
 
--- src/lib.rt:56:1
 same-length : tie.Need-same-length
 same-length c = search needs
 
--- src/lib.rt:56:1
 returns-3 : tie.Need-returns-3
-returns-3 c = ?
+returns-3 c =
+    let at-look = c .before .before in
+    let at-state-of = at-look .before .before in
+    let at-minus = at-state-of .before .before .before .before .before in
+    let at-count = at-minus .before .before in
+    let at-emitted-free = at-count .before in
+    let at-enum-told = at-emitted-free .before .before .before in
+    let at-prepare = at-enum-told .before .before in
+    let s = at-prepare .before .before .before .before .before .before .before in
+    let ready = at-prepare .prepare .ensures .accepts (at-enum-told .enum-told .given .1) in
+    looked-step (s .args .table .now) (s .args .provided) (s .args .mark) (s .args .labels) ready (at-emitted-free .emitted-free .ensures) (at-count .count .ensures)
+    (at-minus .minus .ensures) (omega (arith, at-minus .before .if1 .left)) (at-state-of .state-of .ensures) (at-look .look .ensures)
 
 pub step-with-spec : {M : Type 1} → statement M
 step-with-spec =
