@@ -24,7 +24,7 @@ const LARGE: usize = 7810;
 
 // The rows of a prepared table, as the lister leaves them, or that the area is too small for them; with no signal unknown they are
 // the reactions.
-pub fn rows_in(
+fn rows_in(
     nodes: &[u16; MOST_NODES],
     ends: &[u16; MOST_NODES],
     notes: &[u16; MOST_NODES],
@@ -103,7 +103,7 @@ fn rows_through(
     n
 }
 
-pub fn rows_large(
+fn rows_large(
     nodes: &[u16; MOST_NODES],
     ends: &[u16; MOST_NODES],
     notes: &[u16; MOST_NODES],
@@ -129,6 +129,48 @@ pub fn rows_large(
         state,
         area,
         &mut large,
+    )
+}
+
+// The rows of a state, in the lent area, or through a larger one where that is too small.
+pub fn rows_of(
+    nodes: &[u16; MOST_NODES],
+    ends: &[u16; MOST_NODES],
+    notes: &[u16; MOST_NODES],
+    unions: &[u64; COUNTS],
+    slotted: u64,
+    assumed: u64,
+    unknown: u64,
+    state: State,
+    area: &mut [u64],
+) -> usize
+    requires { ⌜ (128 ≤ length (now area)) × Listable (now nodes) (now ends) (now notes) (now unions) slotted unknown ⌝ }
+    ensures { λ r. ⌜ Made (now (area .entry)) (now (area .exit)) 0 0 (cappedRows slotted (statementOf (now (nodes .entry))) (stateIn state) assumed unknown) r ⌝ }
+{
+    let n = rows_in(
+        nodes,
+        ends,
+        notes,
+        unions,
+        slotted,
+        assumed,
+        unknown,
+        state,
+        area,
+    );
+    if n <= area::OVER {
+        return n;
+    }
+    rows_large(
+        nodes,
+        ends,
+        notes,
+        unions,
+        slotted,
+        assumed,
+        unknown,
+        state,
+        area,
     )
 }
 
@@ -160,11 +202,8 @@ pub fn reactions(
     ensures { λ r. ⌜ Finds (limited (statementOf (now (nodes .entry))) (stateIn state) assumed) r (now (area .entry)) (now (area .exit)) ⌝ }
 {
     let present = assumed as u64;
-    let n = rows_in(nodes, ends, notes, unions, slotted, present, 0, state, area);
-    if n <= area::OVER {
-        return answer_for(n);
-    }
-    answer_for(rows_large(nodes, ends, notes, unions, slotted, present, 0, state, area))
+    let n = rows_of(nodes, ends, notes, unions, slotted, present, 0, state, area);
+    answer_for(n)
 }
 
 // The reactions of a state of a table, left in front of an area, with room lent for what is prepared.

@@ -10,8 +10,7 @@ mod preparing;
 mod writing;
 
 pub use finding::reactions;
-pub use finding::rows_in;
-pub use finding::rows_large;
+pub use finding::rows_of;
 use lister::COUNTS;
 pub use preparing::prepare;
 pub use preparing::slotted;

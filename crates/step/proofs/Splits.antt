@@ -10,7 +10,7 @@ use native.Mathlib.Decide.{decLt}
 use Rattle.sets.specs.Set.{has, only, _union_, _minus_, _without_, Within, Apart, count}
 use Rattle.sets.proofs.Booleans.{and-cases, clash, not-true}
 use Rattle.sets.proofs.Members.{has-minus, has-only-other, has-without-same, apart-union}
-use Rattle.sets.proofs.Counts.{count-within, count-without}
+use Rattle.sets.proofs.Counts.{count-within, count-without, count-empty}
 use Rattle.esterel.specs.Statement.{Statement}
 use Rattle.esterel.specs.Reactions.{State}
 use Rattle.esterel.specs.Stepping.{Answer, one, none, several, joined, emittedFree, stepping, crowdedFrom}
@@ -24,7 +24,7 @@ use Rattle.lister.specs.inner.Slots.{Slotted}
 use Rattle.step.specs.declared.Stepped.{Stepped}
 use Rattle.step.specs.declared.Stepped.the-variants.{Refused}
 use Rattle.step.specs.Answers.{steppedOutcome}
-use Rattle.step.specs.inner.Looking.{given, found, together, Unknowns, Looks}
+use Rattle.step.specs.inner.Looking.{given, found, together, Unknowns, Attempts, Looks}
 use Rattle.step.proofs.Rows.{together-given}
 
 -- ---- the unknown signals
@@ -79,6 +79,24 @@ looks-over {a} {b} {n} {A} {U} M p x I m h e = record {
         go (yes l) = absurd (let k = m .cramped l in omega arith)
         go (no l) = omega arith
 
+-- ---- an attempt
+number-refused : numberOf (steppedOutcome (Refused 15)) ≡ 15
+unfolding numberOf steppedOutcome
+number-refused = refl
+
+-- with more signals unknown than the limit, so with some
+pub attempts-none : {p : Statement} {x : State} {I A U many : ℕ} (limit : ℕ) → many ≡ count 64 U → limit < many → Attempts p x I A U (Refused 15)
+attempts-none {U = U} {many} limit e h = record {
+  found = λ z. absurd (let n = number-refused in omega arith);
+  alone = λ z. absurd (let c : count 64 U ≡ 0 = ap (count 64) z ∙ count-empty 64 in omega arith);
+}
+
+pub attempts-over : {a b : List ℕ} {n A U : ℕ} (M : ℕ) (p : Statement) (x : State) (I : ℕ) → Made a b 0 0 (cappedRows M p x A U) n → 64 < n → Attempts p x I A U (Refused 15)
+attempts-over M p x I m h = record { found = λ z. absurd (let n = number-refused in omega arith); alone = looks-over M p x I m h }
+
+pub attempts-rows : {p : Statement} {x : State} {I A U : ℕ} {r : Stepped} → Looks p x I A U r → Attempts p x I A U r
+attempts-rows l = record { found = λ z. l; alone = λ z. l }
+
 -- ---- with a signal present and with it absent
 -- the number tells which it is
 number-answer : (a : Answer) → numberOf (steppedOutcome (given a)) ≡ 0
@@ -86,10 +104,6 @@ unfolding numberOf steppedOutcome given
 number-answer (one t) = refl
 number-answer none = refl
 number-answer several = refl
-
-number-refused : numberOf (steppedOutcome (Refused 15)) ≡ 15
-unfolding numberOf steppedOutcome
-number-refused = refl
 
 refusal-last : (a : Answer) → together (given a) (Refused 15) ≡ Refused 15
 unfolding together given

@@ -77,6 +77,7 @@ fn step_with(
             }
             let given = provided as u64;
             let unknown = sets::minus(free, given);
+            let mut limit = MOST_FREE;
             looking::look(
                 nodes,
                 ends,
@@ -87,6 +88,7 @@ fn step_with(
                 unknown,
                 list::state_of(mark, labels),
                 area,
+                &mut limit,
             )
         }
     }

@@ -4,7 +4,7 @@ use list::State;
 use lister::COUNTS;
 use table::MOST_NODES;
 ghost use mathlib.Core.Path.{_≡_};
-ghost use Prim.Native.Nat.{ℕ, _*_, _≤_};
+ghost use Prim.Native.Nat.{ℕ, _+_, _*_, _≤_};
 ghost use lib.ListN.{length};
 ghost use Rattle.table.specs.inner.Places.{statementOf};
 ghost use Rattle.esterel.specs.inner.Conditions.{seen};
@@ -15,7 +15,7 @@ ghost use Rattle.area.specs.inner.Layout.{packed};
 ghost use Rattle.area.specs.inner.Area.{rows, Made};
 ghost use Rattle.lister.specs.inner.Notes.{Resumable};
 ghost use Rattle.list.specs.inner.Preparing.{stateIn, Listable};
-ghost use Rattle.step.specs.inner.Looking.{given, together, Unknowns, Looks};
+ghost use Rattle.step.specs.inner.Looking.{given, together, Unknowns, Attempts, Looks};
 
 // The slots of the members of a set.
 fn slots_in(slotted: u64, set: u64) -> u64
@@ -132,22 +132,41 @@ fn gather(
     found
 }
 
-// The rows of a state, in the lent area, or through a larger one where that is too small.
-fn rows_of(
+// With how many unknown signals a list is worth trying after one with so many had n rows: with one fewer where it gave up, with one
+// more where two such lists would have room in one.
+fn limit_after(many: u8, n: usize) -> u8
+    requires { ⌜ many ≤ 64 ⌝ }
+    ensures { λ r. ⌜ r ≤ many + 1 ⌝ }
+{
+    if area::MOST < n {
+        return if many == 0 { 0 } else { many - 1 };
+    }
+    if n <= area::MOST / 2 { many + 1 } else { many }
+}
+
+// The steps under the sets that agree with `assumed` outside `unknown`, from one list of rows; 15 where that gives up, or where more
+// signals are unknown than `limit`, so that it would be tried in vain.
+fn attempt(
     nodes: &[u16; MOST_NODES],
     ends: &[u16; MOST_NODES],
     notes: &[u16; MOST_NODES],
     unions: &[u64; COUNTS],
-    slotted: u64,
+    provided: u32,
     assumed: u64,
     unknown: u64,
     state: State,
     area: &mut [u64],
-) -> usize
-    requires { ⌜ (128 ≤ length (now area)) × Listable (now nodes) (now ends) (now notes) (now unions) slotted unknown ⌝ }
-    ensures { λ r. ⌜ Made (now (area .entry)) (now (area .exit)) 0 0 (cappedRows slotted (statementOf (now (nodes .entry))) (stateIn state) assumed unknown) r ⌝ }
+    limit: &mut u8,
+) -> Stepped
+    requires { ⌜ (128 ≤ length (now area)) × Resumable (now nodes) (now ends) (now notes) (now unions) 0 × Unknowns assumed unknown ⌝ }
+    ensures { λ r. ⌜ Attempts (statementOf (now (nodes .entry))) (stateIn state) provided assumed unknown r ⌝ }
 {
-    let n = list::rows_in(
+    let many = sets::count(unknown);
+    if *limit < many {
+        return Stepped::Refused(list::CROWDED);
+    }
+    let slotted = list::slotted(nodes, ends, notes, unknown);
+    let n = list::rows_of(
         nodes,
         ends,
         notes,
@@ -158,24 +177,16 @@ fn rows_of(
         state,
         area,
     );
-    if n <= area::OVER {
-        return n;
+    *limit = limit_after(many, n);
+    if area::MOST < n {
+        return Stepped::Refused(list::CROWDED);
     }
-    list::rows_large(
-        nodes,
-        ends,
-        notes,
-        unions,
-        slotted,
-        assumed,
-        unknown,
-        state,
-        area,
-    )
+    gather(area, n, slotted, provided, assumed, unknown)
 }
 
 // The steps under the sets that agree with `assumed` outside `unknown`: from one list of rows, or, where that gives up, with one
-// of the unknown signals present and with it absent. Under one set alone giving up is refusal 15.
+// of the unknown signals present and with it absent. Under one set alone giving up is refusal 15. Neighbours give up alike, so
+// `limit` goes on from one to the next; it changes no answer.
 pub fn look(
     nodes: &[u16; MOST_NODES],
     ends: &[u16; MOST_NODES],
@@ -186,27 +197,28 @@ pub fn look(
     unknown: u64,
     state: State,
     area: &mut [u64],
+    limit: &mut u8,
 ) -> Stepped
     requires { ⌜ (128 ≤ length (now area)) × Resumable (now nodes) (now ends) (now notes) (now unions) 0 × Unknowns assumed unknown ⌝ }
     ensures { λ r. ⌜ Looks (statementOf (now (nodes .entry))) (stateIn state) provided assumed unknown r ⌝ }
 {
-    let slotted = list::slotted(nodes, ends, notes, unknown);
-    let n = rows_of(
+    let found = attempt(
         nodes,
         ends,
         notes,
         unions,
-        slotted,
+        provided,
         assumed,
         unknown,
         state,
         area,
+        limit,
     );
-    if n <= area::MOST {
-        return gather(area, n, slotted, provided, assumed, unknown);
+    if crate::refusal(found) == 0 {
+        return found;
     }
     if unknown == 0 {
-        return Stepped::Refused(list::CROWDED);
+        return found;
     }
     let signal = sets::least(unknown);
     let rest = sets::without(unknown, signal);
@@ -220,6 +232,7 @@ pub fn look(
         rest,
         state,
         area,
+        limit,
     );
     if crate::refusal(present) != 0 {
         return present;
@@ -234,6 +247,7 @@ pub fn look(
         rest,
         state,
         area,
+        limit,
     );
     joined(present, absent)
 }

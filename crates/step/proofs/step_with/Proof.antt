@@ -41,7 +41,8 @@ state-of-requires c κs = search needs
 
 look-requires : tie.Need-look-requires
 look-requires c κs =
-    let at-minus = c .before .before .before .before .before .before in
+    let at-state-of = c .before .before in
+    let at-minus = at-state-of .before .before .before .before .before in
     let at-count = at-minus .before .before in
     let at-emitted-free = at-count .before in
     let at-enum-told = at-emitted-free .before .before .before in
@@ -67,7 +68,7 @@ same-length c = search needs
 returns-3 : tie.Need-returns-3
 returns-3 c =
     let at-look = c .before .before in
-    let at-state-of = at-look .before .before in
+    let at-state-of = at-look .before .before .before in
     let at-minus = at-state-of .before .before .before .before .before in
     let at-count = at-minus .before .before in
     let at-emitted-free = at-count .before in

@@ -8,6 +8,8 @@ use Rattle.esterel.specs.Statement.{Statement}
 use Rattle.esterel.specs.Reactions.{State}
 use Rattle.esterel.specs.Stepping.{Answer, one, none, several, signals}
 use Rattle.esterel.specs.inner.Stepping.{Found, crowded, answer, Looked}
+use Rattle.table.specs.Outcomes.{numberOf}
+use Rattle.step.specs.Answers.{steppedOutcome}
 use Rattle.step.specs.declared.Stepped.{Stepped}
 use Rattle.step.specs.declared.Stepped.the-variants.{Refused, One, None, Several}
 
@@ -45,3 +47,8 @@ pub record Looks (p : Statement) (x : State) (I A U : ℕ) (r : Stepped) : Type 
   pub all : Found
   pub looked : Looked p x I A U all
   pub result : r ≡ found all
+
+-- and so it is of one list of rows, but for a refusal where signals are unknown, which says nothing
+pub record Attempts (p : Statement) (x : State) (I A U : ℕ) (r : Stepped) : Type 0 where
+  pub found : numberOf (steppedOutcome r) ≡ 0 → Looks p x I A U r
+  pub alone : U ≡ 0 → Looks p x I A U r

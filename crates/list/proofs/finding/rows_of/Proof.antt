@@ -1,8 +1,8 @@
 -- In the lent area, or through the large one.
 use Rattle.list.proofs.Findings.{made-first, made-again}
 use borrow.Author.Needs.{needs}
-use Rattle.step.proofs.looking.rows_of.Statement.{statement}
-use Rattle.step.proofs.looking.rows_of.Tie as tie
+use Rattle.list.proofs.finding.rows_of.Statement.{statement}
+use Rattle.list.proofs.finding.rows_of.Tie as tie
 
 rows-in-requires : tie.Need-rows-in-requires
 rows-in-requires c κs = search needs
