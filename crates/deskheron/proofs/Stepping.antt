@@ -1,0 +1,149 @@
+-- Step answers the same of an accepted table and of its trimmed table: what it answers, where it refuses nothing, is the answer of
+-- the statement, and that follows from its listings, which trimming keeps. Trimming nests signals no deeper and brings no signal
+-- that is emitted outside a declaration, so neither 14 nor 17.
+use mathlib.Core.Path.{_≡_, refl, sym, ap, _∙_, subst}
+use mathlib.Core.Logic.{_≢_}
+use mathlib.Core.Bool.{true, false, cond}
+use mathlib.Core.List.{List}
+use Prim.Native.Nat.{ℕ}
+use native.Mathlib.Omega.{arith}
+use lib.Dec.{ltb}
+use Rattle.sets.proofs.Booleans.{by-cond, clash}
+use Rattle.esterel.specs.Statement.{Statement}
+use Rattle.esterel.specs.Trimming.{trimmed}
+use Rattle.esterel.specs.Reactions.{State}
+use Rattle.esterel.specs.Runs.{Step, Run, StateOf}
+use Rattle.esterel.specs.Listing.{nesting}
+use Rattle.esterel.specs.Stepping.{Answer, one, none, several, stepping, manyFree, crowdedFrom}
+use Rattle.table.specs.Outcomes.{Outcome, refusal, values, numberOf}
+use Rattle.table.specs.Reading.{Table, refused, holds, tableOf}
+use Rattle.table.specs.Writing.{write}
+use Rattle.table.proofs.Refusals.{table-refusals}
+use Rattle.list.specs.Answers.{stateOf}
+use Rattle.step.specs.Answers.{answerOutcome, stepFor, stepIn, stepOf}
+use Rattle.deskheron.specs.Demand.{Marked, TrimmedStepsTheSame}
+use Rattle.deskheron.proofs.Trimmed.{not-refused, state-is, held, valid-q, reads, same-found}
+
+-- ---- what step comes to of a statement, and why
+data Tested (p : Statement) (x : State) (I : ℕ) : Outcome → Type 0 where
+  nested : ltb 12 (nesting p) ≡ true → Tested p x I (refusal 14)
+  many : manyFree p ≡ true → ltb 12 (nesting p) ≡ false → Tested p x I (refusal 17)
+  crowds : manyFree p ≡ false → ltb 12 (nesting p) ≡ false → Tested p x I (refusal 15)
+  answers : manyFree p ≡ false → ltb 12 (nesting p) ≡ false → Tested p x I (answerOutcome (stepping p x I))
+
+tested : (p : Statement) (x : State) (I : ℕ) → Tested p x I (stepFor p x I)
+unfolding stepFor
+tested p x I =
+    by-cond (Tested p x I) (ltb 12 (nesting p)) (refusal 14) after nested
+    (λ s. by-cond (Tested p x I) (manyFree p) (refusal 17) last (λ f. many f s)
+    (λ f. by-cond (Tested p x I) (crowdedFrom p x I) (refusal 15) (answerOutcome (stepping p x I)) (λ c. crowds f s) (λ c. answers f s)))
+  where
+    last : Outcome
+    last = cond (crowdedFrom p x I) (refusal 15) (answerOutcome (stepping p x I))
+
+    after : Outcome
+    after = cond (manyFree p) (refusal 17) last
+
+number-answer : (a : Answer) → numberOf (answerOutcome a) ≡ 0
+unfolding numberOf answerOutcome
+number-answer (one t) = refl
+number-answer none = refl
+number-answer several = refl
+
+module _ {p : Statement} {x : State} {I : ℕ} where
+  values-are : {v : Outcome} {vs : List ℕ} → Tested p x I v → v ≡ values vs → answerOutcome (stepping p x I) ≡ values vs
+  values-are {v} {vs} (nested s) e = not-refused 14 vs e
+  values-are {v} {vs} (many f s) e = not-refused 17 vs e
+  values-are {v} {vs} (crowds f s) e = not-refused 15 vs e
+  values-are (answers f s) e = e
+
+  at-14 : {v : Outcome} → Tested p x I v → numberOf v ≡ 14 → ltb 12 (nesting p) ≡ true
+  unfolding numberOf
+  at-14 (nested s) e = s
+  at-14 (many f s) e = absurd (omega arith)
+  at-14 (crowds f s) e = absurd (omega arith)
+  at-14 (answers f s) e = absurd (let z = number-answer (stepping p x I) in omega arith)
+
+  at-17 : {v : Outcome} → Tested p x I v → numberOf v ≡ 17 → manyFree p ≡ true
+  unfolding numberOf
+  at-17 (nested s) e = absurd (omega arith)
+  at-17 (many f s) e = f
+  at-17 (crowds f s) e = absurd (omega arith)
+  at-17 (answers f s) e = absurd (let z = number-answer (stepping p x I) in omega arith)
+
+  for-14 : {v : Outcome} → Tested p x I v → ltb 12 (nesting p) ≡ true → numberOf v ≡ 14
+  unfolding numberOf
+  for-14 (nested s) d = refl
+  for-14 (many f s) d = clash d s
+  for-14 (crowds f s) d = clash d s
+  for-14 (answers f s) d = clash d s
+
+  for-17 : {v : Outcome} → Tested p x I v → numberOf v ≢ 14 → manyFree p ≡ true → numberOf v ≡ 17
+  unfolding numberOf
+  for-17 (nested s) n m = absurd (n refl)
+  for-17 (many f s) n m = refl
+  for-17 (crowds f s) n m = clash m f
+  for-17 (answers f s) n m = clash m f
+
+-- ---- what it comes to of bytes that hold the statement
+module _ (t : List ℕ) (n : ℕ) (p : Statement) (h : tableOf t ≡ holds n p) where
+  step-held : (I mark X : ℕ) → stepOf t I mark X ≡ stepFor p (stateOf mark X) I
+  unfolding stepOf stepIn
+  step-held I mark X = ap (λ (T : Table). stepIn T I mark X) h
+
+  step-tested : (I mark X : ℕ) → Tested p (stateOf mark X) I (stepOf t I mark X)
+  step-tested I mark X = subst (Tested p (stateOf mark X) I) (sym (step-held I mark X)) (tested p (stateOf mark X) I)
+
+  -- in the state that the call is for
+  step-values : (x : State) (I mark X : ℕ) → Marked x mark X → {vs : List ℕ} → stepOf t I mark X ≡ values vs → answerOutcome (stepping p x I) ≡ values vs
+  step-values x I mark X m {vs} e =
+      subst (λ (y : State). answerOutcome (stepping p y I) ≡ values vs) (state-is x mark X m) (values-are (step-tested I mark X) e)
+
+-- bytes that step accepts hold a statement
+step-holds : (t : List ℕ) (I mark X : ℕ) (vs : List ℕ) → stepOf t I mark X ≡ values vs → (n : ℕ) × (p : Statement) × (tableOf t ≡ holds n p)
+unfolding stepOf stepIn
+step-holds t I mark X vs e = go (tableOf t) refl
+  where
+    go : (T : Table) → tableOf t ≡ T → (n : ℕ) × (p : Statement) × (tableOf t ≡ holds n p)
+    go (refused w) h = not-refused w vs (sym (ap (λ (T : Table). stepIn T I mark X) h) ∙ e)
+    go (holds n p) h = (n, p, h)
+
+-- ---- the trimmed table
+module _ (t : List ℕ) (s : ℕ) (p : Statement) (h : tableOf t ≡ holds s p) where
+  abbrev q : Statement
+  q = trimmed p
+
+  abbrev u : List ℕ
+  u = write q
+
+  same-answer : (ts : List Step) → Run p ts → (x : State) → StateOf ts x → (I : ℕ) → stepping p x I ≡ stepping q x I
+  same-answer ts run x state I = same-answers p q x I (valid-free 0 p (held t s p h .valid)) (valid-free 0 q (valid-q t s p h)) (same-found t s p h ts run x state)
+
+  answers-same : (ts : List Step) → Run p ts → (x : State) → StateOf ts x → (I m X n Y : ℕ) → Marked x m X → Marked x n Y
+      → (vs ws : List ℕ) → stepOf t I m X ≡ values vs → stepOf u I n Y ≡ values ws → vs ≡ ws
+  answers-same ts run x state I m X n Y f g vs ws e k =
+      let (s′, r, i) = step-holds u I n Y ws k in
+      let hu : tableOf u ≡ holds s′ q = i ∙ ap (holds s′) (reads t s p h s′ r i) in
+      let a = step-values t s p h x I m X f e in
+      let b = step-values u s′ q hu x I n Y g k in
+      let z : values vs ≡ values ws = sym a ∙ ap answerOutcome (same-answer ts run x state I) ∙ b in cc
+
+  no-more-refused : (I m X J n Y : ℕ) → numberOf (stepOf t I m X) ≢ 14
+      → (numberOf (stepOf u J n Y) ≢ 14) × (numberOf (stepOf t I m X) ≢ 17 → numberOf (stepOf u J n Y) ≢ 17)
+  unfolding stepOf stepIn numberOf
+  no-more-refused I m X J n Y f = go (tableOf u) refl
+    where
+      go : (T : Table) → tableOf u ≡ T → (numberOf (stepOf u J n Y) ≢ 14) × (numberOf (stepOf t I m X) ≢ 17 → numberOf (stepOf u J n Y) ≢ 17)
+      go (refused w) e =
+          let b = table-refusals u w e in
+          let k : numberOf (stepOf u J n Y) ≡ w = ap (λ (T : Table). numberOf (stepIn T J n Y)) e in
+          (λ i. omega arith, λ g i. omega arith)
+      go (holds s′ r) e =
+          let hu : tableOf u ≡ holds s′ q = e ∙ ap (holds s′) (reads t s p h s′ r e) in
+          let a = step-tested t s p h I m X in
+          let b = step-tested u s′ q hu J n Y in
+          (λ i. f (for-14 a (nested-trimmed p (at-14 b i))), λ g i. g (for-17 a f (many-trimmed p (at-17 b i))))
+
+pub trimmed-steps-the-same : TrimmedStepsTheSame
+unfolding TrimmedStepsTheSame
+trimmed-steps-the-same t s p h = record { answers = answers-same t s p h; refusals = no-more-refused t s p h }
