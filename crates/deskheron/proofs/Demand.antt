@@ -20,6 +20,7 @@ use Rattle.esterel.proofs.Order.{same-reaction}
 use Rattle.esterel.proofs.Listing.{list-is-listing}
 use Rattle.esterel.proofs.Bounds.{Narrow, reaction-narrow}
 use Rattle.esterel.proofs.Runs.{same-runs}
+use Rattle.esterel.proofs.Indistinguishable.{same-listings}
 use Rattle.table.specs.Outcomes.{refusal, values}
 use Rattle.table.specs.Reading.{Table, tableOf, holds, deepest}
 use Rattle.table.specs.Writing.{write}
@@ -29,7 +30,7 @@ use Rattle.list.specs.Answers.{Listing, refused, listed, listFor, listIn, fitte
 use Rattle.list.specs.Buffers.{emittedIn, codeIn, reachedIn, front}
 use Rattle.deskheron.specs.Demand.{Layout, placesOf, filled, groupAt, Call, For, calledOn, Groups, standsAt, readBack, Stands, ThirdDemand}
 use Rattle.deskheron.proofs.Groups.{groupOf, group-filled, number-in, group-front, number-single}
-use Rattle.deskheron.proofs.Trimmed.{not-refused, state-is, held, levels, valid-q, reads, same-found}
+use Rattle.deskheron.proofs.Trimmed.{not-refused, state-is, held, levels, valid-q, reads}
 
 -- ---- a list by its places
 none : Reaction
@@ -147,6 +148,10 @@ module _ (t : List ℕ) (s : ℕ) (p : Statement) (h : tableOf t ≡ holds s p) 
   abbrev u : List ℕ
   u = write q
 
+  same-found : (ts : List Step) → Run p ts → (x : State) → StateOf ts x → (E : ℕ) → listing p x E ≡ listing q x E
+  unfolding listing
+  same-found ts run x state E = same-listings p (levels t s p h) ts run x state E
+
   derived : (r : Statement) (x : State) (E : ℕ) (t : Reaction) → Listed t (listing r x E) ↔ Reacts r x E t
   unfolding listing
   derived r x E t = list-is-listing r x E .members t
@@ -170,7 +175,7 @@ module _ (t : List ℕ) (s : ℕ) (p : Statement) (h : tableOf t ≡ holds s p) 
       let hu : tableOf u ≡ holds s′ q = i ∙ ap (holds s′) (reads t s p h s′ r i) in
       let a = called-lists y t s p h x E c f n e in
       let b = called-lists y u s′ q hu x E d g m k in
-      let same = same-found t s p h ts run x state E in
+      let same = same-found ts run x state E in
       let v : calledOn y u E d ≡ listed (listing p x E) = b .0 ∙ ap listed (sym same) in
       let w : m ≡ length (listing p x E) = b .1 ∙ ap length (sym same) in (
         a .1 ∙ sym w,

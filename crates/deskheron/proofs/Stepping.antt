@@ -14,15 +14,20 @@ use Rattle.esterel.specs.Trimming.{trimmed}
 use Rattle.esterel.specs.Reactions.{State}
 use Rattle.esterel.specs.Runs.{Step, Run, StateOf}
 use Rattle.esterel.specs.Listing.{nesting}
-use Rattle.esterel.specs.Stepping.{Answer, one, none, several, stepping, manyFree, crowdedFrom}
+use Rattle.esterel.specs.Stepping.{Answer, one, none, several, emittedFree, stepping, manyFree, crowdedFrom}
+use Rattle.esterel.proofs.Conditions.{in-right}
+use Rattle.esterel.proofs.Bounds.{valid-free}
+use Rattle.esterel.proofs.Stepping.{FreeSignals, step-within, step-looked-at, stepping-is}
+use Rattle.esterel.proofs.Limits.{shallow-trimmed, few-trimmed}
+use Rattle.esterel.proofs.Indistinguishable.{same-steps}
 use Rattle.table.specs.Outcomes.{Outcome, refusal, values, numberOf}
 use Rattle.table.specs.Reading.{Table, refused, holds, tableOf}
 use Rattle.table.specs.Writing.{write}
 use Rattle.table.proofs.Refusals.{table-refusals}
 use Rattle.list.specs.Answers.{stateOf}
 use Rattle.step.specs.Answers.{answerOutcome, stepFor, stepIn, stepOf}
-use Rattle.deskheron.specs.Demand.{Marked, TrimmedStepsTheSame}
-use Rattle.deskheron.proofs.Trimmed.{not-refused, state-is, held, valid-q, reads, same-found}
+use Rattle.deskheron.specs.Demand.{Marked, AnswersByTheRules, StepsByTheRules, TrimmedStepsTheSame}
+use Rattle.deskheron.proofs.Trimmed.{not-refused, state-is, held, levels, reads}
 
 -- ---- what step comes to of a statement, and why
 data Tested (p : Statement) (x : State) (I : ℕ) : Outcome → Type 0 where
@@ -57,33 +62,33 @@ module _ {p : Statement} {x : State} {I : ℕ} where
   values-are {v} {vs} (crowds f s) e = not-refused 15 vs e
   values-are (answers f s) e = e
 
-  at-14 : {v : Outcome} → Tested p x I v → numberOf v ≡ 14 → ltb 12 (nesting p) ≡ true
+  shallow : {v : Outcome} → Tested p x I v → numberOf v ≢ 14 → ltb 12 (nesting p) ≡ false
   unfolding numberOf
-  at-14 (nested s) e = s
-  at-14 (many f s) e = absurd (omega arith)
-  at-14 (crowds f s) e = absurd (omega arith)
-  at-14 (answers f s) e = absurd (let z = number-answer (stepping p x I) in omega arith)
+  shallow (nested s) n = absurd (n refl)
+  shallow (many f s) n = s
+  shallow (crowds f s) n = s
+  shallow (answers f s) n = s
 
-  at-17 : {v : Outcome} → Tested p x I v → numberOf v ≡ 17 → manyFree p ≡ true
+  few : {v : Outcome} → Tested p x I v → numberOf v ≢ 14 → numberOf v ≢ 17 → manyFree p ≡ false
   unfolding numberOf
-  at-17 (nested s) e = absurd (omega arith)
-  at-17 (many f s) e = f
-  at-17 (crowds f s) e = absurd (omega arith)
-  at-17 (answers f s) e = absurd (let z = number-answer (stepping p x I) in omega arith)
+  few (nested s) n m = absurd (n refl)
+  few (many f s) n m = absurd (m refl)
+  few (crowds f s) n m = f
+  few (answers f s) n m = f
 
-  for-14 : {v : Outcome} → Tested p x I v → ltb 12 (nesting p) ≡ true → numberOf v ≡ 14
+  never-14 : {v : Outcome} → Tested p x I v → ltb 12 (nesting p) ≡ false → numberOf v ≢ 14
   unfolding numberOf
-  for-14 (nested s) d = refl
-  for-14 (many f s) d = clash d s
-  for-14 (crowds f s) d = clash d s
-  for-14 (answers f s) d = clash d s
+  never-14 (nested s) h = clash s h
+  never-14 (many f s) h = λ e. omega arith
+  never-14 (crowds f s) h = λ e. omega arith
+  never-14 (answers f s) h = λ e. let z = number-answer (stepping p x I) in omega arith
 
-  for-17 : {v : Outcome} → Tested p x I v → numberOf v ≢ 14 → manyFree p ≡ true → numberOf v ≡ 17
+  never-17 : {v : Outcome} → Tested p x I v → manyFree p ≡ false → numberOf v ≢ 17
   unfolding numberOf
-  for-17 (nested s) n m = absurd (n refl)
-  for-17 (many f s) n m = refl
-  for-17 (crowds f s) n m = clash m f
-  for-17 (answers f s) n m = clash m f
+  never-17 (nested s) h = λ e. omega arith
+  never-17 (many f s) h = clash f h
+  never-17 (crowds f s) h = λ e. omega arith
+  never-17 (answers f s) h = λ e. let z = number-answer (stepping p x I) in omega arith
 
 -- ---- what it comes to of bytes that hold the statement
 module _ (t : List ℕ) (n : ℕ) (p : Statement) (h : tableOf t ≡ holds n p) where
@@ -98,6 +103,15 @@ module _ (t : List ℕ) (n : ℕ) (p : Statement) (h : tableOf t ≡ holds n p) 
   step-values : (x : State) (I mark X : ℕ) → Marked x mark X → {vs : List ℕ} → stepOf t I mark X ≡ values vs → answerOutcome (stepping p x I) ≡ values vs
   step-values x I mark X m {vs} e =
       subst (λ (y : State). answerOutcome (stepping p y I) ≡ values vs) (state-is x mark X m) (values-are (step-tested I mark X) e)
+
+  free : FreeSignals p
+  free = valid-free 0 p (held t n p h .valid)
+
+  by-the-rules : AnswersByTheRules t p
+  by-the-rules = record {
+    answers = λ x I m X f vs e. (stepping p x I, step-values x I m X f e, stepping-is p x I free);
+    looked = λ x I r s. (λ S m. in-right I (emittedFree p) S (step-within p x I r s S m), step-looked-at p x I free r s);
+  }
 
 -- bytes that step accepts hold a statement
 step-holds : (t : List ℕ) (I mark X : ℕ) (vs : List ℕ) → stepOf t I mark X ≡ values vs → (n : ℕ) × (p : Statement) × (tableOf t ≡ holds n p)
@@ -116,9 +130,6 @@ module _ (t : List ℕ) (s : ℕ) (p : Statement) (h : tableOf t ≡ holds s p) 
   abbrev u : List ℕ
   u = write q
 
-  same-answer : (ts : List Step) → Run p ts → (x : State) → StateOf ts x → (I : ℕ) → stepping p x I ≡ stepping q x I
-  same-answer ts run x state I = same-answers p q x I (valid-free 0 p (held t s p h .valid)) (valid-free 0 q (valid-q t s p h)) (same-found t s p h ts run x state)
-
   answers-same : (ts : List Step) → Run p ts → (x : State) → StateOf ts x → (I m X n Y : ℕ) → Marked x m X → Marked x n Y
       → (vs ws : List ℕ) → stepOf t I m X ≡ values vs → stepOf u I n Y ≡ values ws → vs ≡ ws
   answers-same ts run x state I m X n Y f g vs ws e k =
@@ -126,7 +137,9 @@ module _ (t : List ℕ) (s : ℕ) (p : Statement) (h : tableOf t ≡ holds s p) 
       let hu : tableOf u ≡ holds s′ q = i ∙ ap (holds s′) (reads t s p h s′ r i) in
       let a = step-values t s p h x I m X f e in
       let b = step-values u s′ q hu x I n Y g k in
-      let z : values vs ≡ values ws = sym a ∙ ap answerOutcome (same-answer ts run x state I) ∙ b in cc
+      let same = same-steps p (levels t s p h) (free t s p h) ts run x state I in
+      let z : values vs ≡ values ws = sym a ∙ ap answerOutcome same ∙ b in
+      cc
 
   no-more-refused : (I m X J n Y : ℕ) → numberOf (stepOf t I m X) ≢ 14
       → (numberOf (stepOf u J n Y) ≢ 14) × (numberOf (stepOf t I m X) ≢ 17 → numberOf (stepOf u J n Y) ≢ 17)
@@ -142,7 +155,11 @@ module _ (t : List ℕ) (s : ℕ) (p : Statement) (h : tableOf t ≡ holds s p) 
           let hu : tableOf u ≡ holds s′ q = e ∙ ap (holds s′) (reads t s p h s′ r e) in
           let a = step-tested t s p h I m X in
           let b = step-tested u s′ q hu J n Y in
-          (λ i. f (for-14 a (nested-trimmed p (at-14 b i))), λ g i. g (for-17 a f (many-trimmed p (at-17 b i))))
+          (never-14 b (shallow-trimmed 12 p (shallow a f)), λ g. never-17 b (few-trimmed p (few a f g)))
+
+pub steps-by-the-rules : StepsByTheRules
+unfolding StepsByTheRules
+steps-by-the-rules = by-the-rules
 
 pub trimmed-steps-the-same : TrimmedStepsTheSame
 unfolding TrimmedStepsTheSame

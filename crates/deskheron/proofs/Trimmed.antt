@@ -1,5 +1,5 @@
--- What the third demand and that of step share: the state that a call is for; and for an accepted table, that its trimmed statement
--- has the same listings, and that the bytes which writing gives for it are read as it or refused.
+-- What the third demand and the theorem on step share: the state that a call is for, and that the bytes which writing gives for the
+-- trimmed statement of an accepted table are read as that statement or refused.
 use mathlib.Core.Path.{_≡_, refl, ap, _∙_}
 use mathlib.Core.Logic.{_≢_}
 use mathlib.Core.List.{List}
@@ -8,11 +8,8 @@ use native.Mathlib.Omega.{arith}
 use Rattle.esterel.specs.Statement.{Statement, Valid, size}
 use Rattle.esterel.specs.Trimming.{trimmed}
 use Rattle.esterel.specs.Reactions.{State, start, resumed}
-use Rattle.esterel.specs.Runs.{Step, Run, StateOf}
-use Rattle.esterel.specs.Listing.{listing}
 use Rattle.esterel.proofs.Premises.{LevelsFromOne}
 use Rattle.esterel.proofs.Validity.{valid-levels, valid-trimmed, size-trimmed}
-use Rattle.esterel.proofs.Indistinguishable.{same-listings}
 use Rattle.table.specs.Outcomes.{refusal, values}
 use Rattle.table.specs.Reading.{tableOf, holds}
 use Rattle.table.specs.Writing.{write}
@@ -49,7 +46,3 @@ module _ (t : List ℕ) (s : ℕ) (p : Statement) (h : tableOf t ≡ holds s p) 
 
   pub reads : (n : ℕ) (r : Statement) → tableOf (write (trimmed p)) ≡ holds n r → r ≡ trimmed p
   reads n r e = never-another (trimmed p) (valid-ranged 0 (trimmed p) valid-q) few-q n r e .0
-
-  pub same-found : (ts : List Step) → Run p ts → (x : State) → StateOf ts x → (E : ℕ) → listing p x E ≡ listing (trimmed p) x E
-  unfolding listing
-  same-found ts run x state E = same-listings p levels ts run x state E

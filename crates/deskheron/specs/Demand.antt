@@ -1,16 +1,18 @@
 -- The third demand of Deskheron: nobody who steps an accepted table and its trimmed table can tell them apart. One statement
 -- about bytes, over the definitions that the contracts of check, trim and list cite; it is proved in proofs/Demand. Beside it
--- stands the same of step, proved in proofs/Stepping.
+-- stands what is promised of step, proved in proofs/Stepping.
 use mathlib.Core.Path.{_≡_}
 use mathlib.Core.Logic.{_↔_, _≢_}
 use mathlib.Core.List.{List, [], _∷_, map}
 use Prim.Native.Nat.{ℕ, _*_, _/_, _<_}
 use lib.ListN.{length, take, drop, getD}
+use Rattle.sets.specs.Set.{_union_, Within}
 use Rattle.esterel.specs.Statement.{Statement, size}
 use Rattle.esterel.specs.Trimming.{trimmed}
 use Rattle.esterel.specs.Reactions.{State, start, resumed, Reaction, Reacts}
 use Rattle.esterel.specs.Runs.{Step, Run, StateOf}
-use Rattle.esterel.specs.Listing.{listing, reaction}
+use Rattle.esterel.specs.Listing.{Listed, listing, reaction}
+use Rattle.esterel.specs.Stepping.{StepFrom, Answer, IsAnswer, emittedFree, lookedAt}
 use Rattle.table.specs.Outcomes.{values, numberOf}
 use Rattle.table.specs.Bits.{number, bitsOf}
 use Rattle.table.specs.Reading.{tableOf, holds}
@@ -18,7 +20,7 @@ use Rattle.table.specs.Writing.{write}
 use Rattle.trim.specs.Answers.{trimOf, bufferOf}
 use Rattle.list.specs.Answers.{Listing, listOf, listingOutcome, written}
 use Rattle.list.specs.Buffers.{emittedIn, codeIn, reachedIn, front, spread}
-use Rattle.step.specs.Answers.{stepOf}
+use Rattle.step.specs.Answers.{answerOutcome, stepOf}
 
 -- ---- The state that a call is for
 
@@ -117,6 +119,20 @@ unfoldable pub ThirdDemand : Type 0
 ThirdDemand = (t : List ℕ) (n : ℕ) (p : Statement) → tableOf t ≡ holds n p → Indistinguishable t p (trimmed p) (write (trimmed p))
 
 -- ---- Step
+
+-- The bytes t hold the statement p.
+pub record AnswersByTheRules (t : List ℕ) (p : Statement) : Type 0 where
+  -- 1. In every state, from every provided set I: where step does not refuse t, its values are those of the answer that the rules give.
+  pub answers : (x : State) (I m X : ℕ) → Marked x m X → (vs : List ℕ) → stepOf t I m X ≡ values vs
+      → (a : Answer) × (answerOutcome a ≡ values vs) × IsAnswer p x I a
+  -- 2. Each step has its O within I joined with the signals that are emitted outside a declaration of them, and so its E among those
+  --    that are looked at.
+  pub looked : (x : State) (I : ℕ) (r : Step) → StepFrom p x I r
+      → Within (r .reaction .emitted) (I union emittedFree p) × Listed (r .assumed) (lookedAt p I)
+
+-- For every table that check accepts.
+unfoldable pub StepsByTheRules : Type 0
+StepsByTheRules = (t : List ℕ) (n : ℕ) (p : Statement) → tableOf t ≡ holds n p → AnswersByTheRules t p
 
 -- The bytes t hold the statement p, and u are the bytes that writing gives for its trimmed statement.
 pub record AnswersTheSame (t : List ℕ) (p : Statement) (u : List ℕ) : Type 0 where
