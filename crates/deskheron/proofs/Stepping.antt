@@ -1,6 +1,6 @@
--- Step answers the same of an accepted table and of its trimmed table: what it answers, where it refuses nothing, is the answer of
--- the statement, and that follows from its listings, which trimming keeps. Trimming nests signals no deeper and brings no signal
--- that is emitted outside a declaration, so neither 14 nor 17.
+-- What is promised of step. Where it refuses nothing, its values are those of the answer for the statement that the bytes hold, and
+-- that is what the rules give. The answer follows from the listings, which trimming keeps; and trimming nests signals no deeper and
+-- brings no signal that is emitted outside a declaration, so neither 14 nor 17.
 use mathlib.Core.Path.{_≡_, refl, sym, ap, _∙_, subst}
 use mathlib.Core.Logic.{_≢_}
 use mathlib.Core.Bool.{true, false, cond}
