@@ -1,7 +1,7 @@
 -- The third demand holds. Runs and listings are those of statements (crate esterel); what list gives of bytes is the listing of
 -- the statement that they hold, and what writing gives for the trimmed statement is read as that statement or refused.
 use mathlib.Core.Path.{_≡_, refl, sym, ap, _∙_, subst}
-use mathlib.Core.Logic.{_↔_, _≢_, inl, inr}
+use mathlib.Core.Logic.{_↔_, inl, inr}
 use mathlib.Core.Bool.{cond, _||_}
 use mathlib.Core.List.{List, [], _∷_, _++_, map}
 use Prim.Native.Nat.{ℕ, zero, suc, _≤_, _<_}
@@ -13,26 +13,24 @@ use borrow.Author.Tests.{ltb-false}
 use Rattle.sets.proofs.Booleans.{by-cond, or-neither}
 use Rattle.esterel.specs.Statement.{Statement, Valid, size, depth}
 use Rattle.esterel.specs.Trimming.{trimmed}
-use Rattle.esterel.specs.Reactions.{State, start, resumed, Reaction, Reacts}
+use Rattle.esterel.specs.Reactions.{State, Reaction, Reacts}
 use Rattle.esterel.specs.Runs.{Step, Run, StateOf}
 use Rattle.esterel.specs.Listing.{Listed, reaction, listing, crowded, nesting}
-use Rattle.esterel.proofs.Premises.{LevelsFromOne}
 use Rattle.esterel.proofs.Order.{same-reaction}
 use Rattle.esterel.proofs.Listing.{list-is-listing}
-use Rattle.esterel.proofs.Validity.{valid-levels, valid-trimmed, size-trimmed}
 use Rattle.esterel.proofs.Bounds.{Narrow, reaction-narrow}
 use Rattle.esterel.proofs.Runs.{same-runs}
 use Rattle.esterel.proofs.Indistinguishable.{same-listings}
 use Rattle.table.specs.Outcomes.{refusal, values}
 use Rattle.table.specs.Reading.{Table, tableOf, holds, deepest}
 use Rattle.table.specs.Writing.{write}
-use Rattle.table.proofs.Accepted.{Holds, accepted}
-use Rattle.table.proofs.RoundTrip.{valid-ranged, never-another, read-written}
+use Rattle.table.proofs.RoundTrip.{read-written}
 use Rattle.trim.specs.Answers.{trimFor, trimIn, trimOf, bufferAfter, bufferIn, bufferOf}
-use Rattle.list.specs.Answers.{Listing, refused, listed, stateOf, listFor, listIn, fitted, listOf, listingOutcome, written}
+use Rattle.list.specs.Answers.{Listing, refused, listed, listFor, listIn, fitted, listOf, listingOutcome, written}
 use Rattle.list.specs.Buffers.{emittedIn, codeIn, reachedIn, front}
 use Rattle.deskheron.specs.Demand.{Layout, placesOf, filled, groupAt, Call, For, calledOn, Groups, standsAt, readBack, Stands, ThirdDemand}
 use Rattle.deskheron.proofs.Groups.{groupOf, group-filled, number-in, group-front, number-single}
+use Rattle.deskheron.proofs.Trimmed.{state-is, held, levels, valid-q, reads}
 
 -- ---- a list by its places
 none : Reaction
@@ -109,16 +107,6 @@ lists p x E o k l n =
         (ltb o (length (listing p x E)) || (ltb k (length (listing p x E)) || ltb l (length (listing p x E)))) (refused 16) (listed (listing p x E))
         (λ e h. not-refused 16 (n ∷ []) h) (λ e h. (refl, cc))
 
--- the state that a call is for
-state-is : (x : State) (c : Call) → For x c → stateOf (c .mark) (c .labels) ≡ x
-unfolding For stateOf
-state-is start c h = ap (λ (m : ℕ). stateOf m (c .labels)) h
-state-is (resumed X) c h = marked (c .mark) (h .0) ∙ ap resumed (h .1)
-  where
-    marked : (m : ℕ) → m ≢ 0 → stateOf m (c .labels) ≡ resumed (c .labels)
-    marked zero n = absurd (n refl)
-    marked (suc m) n = refl
-
 -- the listing, as far as the buffers have places for it
 abbrev fittedFor : Layout → Call → Listing → Listing
 fittedFor y c v = fitted (placesOf y 4 (c .o)) (length (c .k)) (placesOf y 8 (c .l)) v
@@ -126,7 +114,7 @@ fittedFor y c v = fitted (placesOf y 4 (c .o)) (length (c .k)) (placesOf y 8 (c 
 called-is : (y : Layout) (t : List ℕ) (s : ℕ) (p : Statement) → tableOf t ≡ holds s p → (x : State) (E : ℕ) (c : Call) → For x c
     → calledOn y t E c ≡ fittedFor y c (listFor p x E)
 unfolding calledOn listOf listIn
-called-is y t s p h x E c f = ap (λ T. fittedFor y c (listIn T E (c .mark) (c .labels))) h ∙ ap (λ z. fittedFor y c (listFor p z E)) (state-is x c f)
+called-is y t s p h x E c f = ap (λ T. fittedFor y c (listIn T E (c .mark) (c .labels))) h ∙ ap (λ z. fittedFor y c (listFor p z E)) (state-is x (c .mark) (c .labels) f)
 
 called-lists : (y : Layout) (t : List ℕ) (s : ℕ) (p : Statement) → tableOf t ≡ holds s p → (x : State) (E : ℕ) (c : Call) → For x c
     → (n : ℕ) → listingOutcome (calledOn y t E c) ≡ values (n ∷ []) → (calledOn y t E c ≡ listed (listing p x E)) × (n ≡ length (listing p x E))
@@ -156,33 +144,15 @@ accepted-fits q room sizes =
 
 -- ---- the demand
 module _ (t : List ℕ) (s : ℕ) (p : Statement) (h : tableOf t ≡ holds s p) where
-  q : Statement
+  abbrev q : Statement
   q = trimmed p
 
-  u : List ℕ
+  abbrev u : List ℕ
   u = write q
 
-  held : Holds t s p
-  held = accepted t s p h
-
-  levels : LevelsFromOne p
-  levels = valid-levels 0 p (held .valid)
-
-  valid-q : Valid 0 q
-  unfolding q
-  valid-q = valid-trimmed p (held .deep) (held .valid)
-
-  few-q : size q < 4096
-  unfolding q
-  few-q = let i = size-trimmed p in let j = held .count in let k = held .header .few in omega arith
-
-  reads : (n : ℕ) (r : Statement) → tableOf u ≡ holds n r → r ≡ q
-  unfolding u
-  reads n r e = never-another q (valid-ranged 0 q valid-q) few-q n r e .0
-
   same-found : (ts : List Step) → Run p ts → (x : State) → StateOf ts x → (E : ℕ) → listing p x E ≡ listing q x E
-  unfolding listing q
-  same-found ts run x state E = same-listings p levels ts run x state E
+  unfolding listing
+  same-found ts run x state E = same-listings p (levels t s p h) ts run x state E
 
   derived : (r : Statement) (x : State) (E : ℕ) (t : Reaction) → Listed t (listing r x E) ↔ Reacts r x E t
   unfolding listing
@@ -204,7 +174,7 @@ module _ (t : List ℕ) (s : ℕ) (p : Statement) (h : tableOf t ≡ holds s p) 
       × ((r : Reaction) → Stands y (calledOn y u E d) d m r ↔ Reacts q x E r)
   answers ts run x state E y c d f g n m e k =
       let (s′, r, i) = called-holds y u E d m k in
-      let hu : tableOf u ≡ holds s′ q = i ∙ ap (holds s′) (reads s′ r i) in
+      let hu : tableOf u ≡ holds s′ q = i ∙ ap (holds s′) (reads t s p h s′ r i) in
       let a = called-lists y t s p h x E c f n e in
       let b = called-lists y u s′ q hu x E d g m k in
       let same = same-found ts run x state E in
@@ -213,22 +183,22 @@ module _ (t : List ℕ) (s : ℕ) (p : Statement) (h : tableOf t ≡ holds s p) 
         a .1 ∙ sym w,
         (λ j l. let o : j < length (listing p x E) = subst (λ (z : ℕ). j < z) (a .1) l in
             ap (λ z. standsAt y z c j) (a .0) ∙ stands-at y (listing p x E) c j o ∙ sym (ap (λ z. standsAt y z d j) v ∙ stands-at y (listing p x E) d j o)),
-        holds-iff p (held .valid) y x E (calledOn y t E c) c n (a .0) (a .1),
-        holds-iff q valid-q y x E (calledOn y u E d) d m (b .0) (b .1),
+        holds-iff p (held t s p h .valid) y x E (calledOn y t E c) c n (a .0) (a .1),
+        holds-iff q (valid-q t s p h) y x E (calledOn y u E d) d m (b .0) (b .1),
       )
 
   trims : (out sizes : List ℕ) → trimOf t (length out) ≡ values sizes → (take (length u) (bufferOf t out) ≡ u) × (tableOf u ≡ holds (size q) q)
-  unfolding trimOf trimIn bufferOf bufferIn bufferAfter q u
+  unfolding trimOf trimIn bufferOf bufferIn bufferAfter
   trims out sizes e =
       let a : trimFor q (length out) ≡ values sizes = ap (λ T. trimIn T (length out)) (sym h) ∙ e in
       let f = accepted-fits q (length out) sizes a in
       let b : bufferOf t out ≡ u ++ drop (length u) out = ap (λ T. bufferIn T out) h ∙ ap (λ z. bufferAfter z q out) a in (
         ap (take (length u)) b ∙ take-at u (drop (length u) out) (length u) refl,
-        read-written q (record { valid = valid-q; few = f .0; deep = f .1 }),
+        read-written q (record { valid = valid-q t s p h; few = f .0; deep = f .1 }),
       )
 
 pub third-demand : ThirdDemand
-unfolding ThirdDemand q u
+unfolding ThirdDemand
 third-demand t s p h = record {
   runs = same-runs p (levels t s p h);
   listings = same-found t s p h;

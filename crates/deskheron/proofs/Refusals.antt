@@ -1,4 +1,4 @@
--- An entry for C that returns 0 has accepted: the refusals of each operation lie where document 01 puts them, and none is 0.
+-- An entry for C that returns 0 has accepted: the refusals of each operation lie where documents 01 and 02 put them, and none is 0.
 use mathlib.Core.Path.{_≡_, ap}
 use mathlib.Core.List.{List, [], _∷_}
 use Prim.Native.Nat.{ℕ}
@@ -12,6 +12,8 @@ use Rattle.trim.specs.Answers.{trimOf}
 use Rattle.trim.proofs.Answers.{trim-accepted}
 use Rattle.list.specs.Answers.{listOf, listingOutcome}
 use Rattle.list.proofs.Refusals.{zero-listed}
+use Rattle.step.specs.Answers.{stepOf}
+use Rattle.step.proofs.Refusals.{zero-stepped}
 
 -- 0 is returned for this outcome only where there are values
 abbrev pub AcceptedByZero : Outcome → Type 0
@@ -22,6 +24,7 @@ pub record Entries (t : List ℕ) : Type 0 where
   pub reach : AcceptedByZero (reachOf t)
   pub trim : (room : ℕ) → AcceptedByZero (trimOf t room)
   pub list : (E mark X o k l : ℕ) → AcceptedByZero (listingOutcome (listOf t E mark X o k l))
+  pub step : (I mark X : ℕ) → AcceptedByZero (stepOf t I mark X)
 
 pub zero-accepts : (t : List ℕ) → Entries t
 unfolding listingOutcome
@@ -30,4 +33,5 @@ zero-accepts t = record {
   reach = reach-accepted t;
   trim = trim-accepted t;
   list = λ E mark X o k l z. let (ts, e) = zero-listed t E mark X o k l z in (length ts ∷ [], ap listingOutcome e);
+  step = zero-stepped t;
 }

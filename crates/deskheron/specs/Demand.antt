@@ -1,22 +1,33 @@
 -- The third demand of Deskheron: nobody who steps an accepted table and its trimmed table can tell them apart. One statement
--- about bytes, over the definitions that the contracts of check, trim and list cite; it is proved in proofs/Demand.
+-- about bytes, over the definitions that the contracts of check, trim and list cite; it is proved in proofs/Demand. Beside it
+-- stands what is promised of step, proved in proofs/Stepping.
 use mathlib.Core.Path.{_≡_}
 use mathlib.Core.Logic.{_↔_, _≢_}
 use mathlib.Core.List.{List, [], _∷_, map}
 use Prim.Native.Nat.{ℕ, _*_, _/_, _<_}
 use lib.ListN.{length, take, drop, getD}
+use Rattle.sets.specs.Set.{_union_, Within}
 use Rattle.esterel.specs.Statement.{Statement, size}
 use Rattle.esterel.specs.Trimming.{trimmed}
 use Rattle.esterel.specs.Reactions.{State, start, resumed, Reaction, Reacts}
 use Rattle.esterel.specs.Runs.{Step, Run, StateOf}
-use Rattle.esterel.specs.Listing.{listing, reaction}
-use Rattle.table.specs.Outcomes.{values}
+use Rattle.esterel.specs.Listing.{Listed, listing, reaction}
+use Rattle.esterel.specs.Stepping.{StepFrom, Answer, IsAnswer, emittedFree, lookedAt}
+use Rattle.table.specs.Outcomes.{values, numberOf}
 use Rattle.table.specs.Bits.{number, bitsOf}
 use Rattle.table.specs.Reading.{tableOf, holds}
 use Rattle.table.specs.Writing.{write}
 use Rattle.trim.specs.Answers.{trimOf, bufferOf}
 use Rattle.list.specs.Answers.{Listing, listOf, listingOutcome, written}
 use Rattle.list.specs.Buffers.{emittedIn, codeIn, reachedIn, front, spread}
+use Rattle.step.specs.Answers.{answerOutcome, stepOf}
+
+-- ---- The state that a call is for
+
+-- of the state x: at the start mark 0 and any label set, in a resumed state another mark and exactly its labels
+unfoldable pub Marked : State → ℕ → ℕ → Type 0
+Marked start mark labels = mark ≡ 0
+Marked (resumed X) mark labels = (mark ≢ 0) × (labels ≡ X)
 
 -- ---- The result buffers of list
 
@@ -53,10 +64,9 @@ pub record Call : Type 0 where
   pub k : List ℕ
   pub l : List ℕ
 
--- the call is for the state x: at the start mark 0 and any label set, in a resumed state another mark and exactly its labels
-unfoldable pub For : State → Call → Type 0
-For start c = c .mark ≡ 0
-For (resumed X) c = (c .mark ≢ 0) × (c .labels ≡ X)
+-- the call is for the state x
+abbrev pub For : State → Call → Type 0
+For x c = Marked x (c .mark) (c .labels)
 
 -- what list comes to of the bytes t under E
 unfoldable pub calledOn : Layout → List ℕ → ℕ → Call → Listing
@@ -107,3 +117,33 @@ pub record Indistinguishable (t : List ℕ) (p q : Statement) (u : List ℕ) : T
 -- For every table that check accepts, also where trim gives 12 or 13.
 unfoldable pub ThirdDemand : Type 0
 ThirdDemand = (t : List ℕ) (n : ℕ) (p : Statement) → tableOf t ≡ holds n p → Indistinguishable t p (trimmed p) (write (trimmed p))
+
+-- ---- Step
+
+-- The bytes t hold the statement p.
+pub record AnswersByTheRules (t : List ℕ) (p : Statement) : Type 0 where
+  -- 1. In every state, from every provided set I: where step does not refuse t, its values are those of the answer that the rules give.
+  pub answers : (x : State) (I m X : ℕ) → Marked x m X → (vs : List ℕ) → stepOf t I m X ≡ values vs
+      → (a : Answer) × (answerOutcome a ≡ values vs) × IsAnswer p x I a
+  -- 2. Each step has its O within I joined with the signals that are emitted outside a declaration of them, and so its E among those
+  --    that are looked at.
+  pub looked : (x : State) (I : ℕ) (r : Step) → StepFrom p x I r
+      → Within (r .reaction .emitted) (I union emittedFree p) × Listed (r .assumed) (lookedAt p I)
+
+-- For every table that check accepts.
+unfoldable pub StepsByTheRules : Type 0
+StepsByTheRules = (t : List ℕ) (n : ℕ) (p : Statement) → tableOf t ≡ holds n p → AnswersByTheRules t p
+
+-- The bytes t hold the statement p, and u are the bytes that writing gives for its trimmed statement.
+pub record AnswersTheSame (t : List ℕ) (p : Statement) (u : List ℕ) : Type 0 where
+  -- 1. At the start and at each state that a run of p comes to, from every provided set I: wherever step refuses neither t nor u,
+  --    its answers are equal, with all their values.
+  pub answers : (ts : List Step) → Run p ts → (x : State) → StateOf ts x → (I m X n Y : ℕ) → Marked x m X → Marked x n Y
+      → (vs ws : List ℕ) → stepOf t I m X ≡ values vs → stepOf u I n Y ≡ values ws → vs ≡ ws
+  -- 2. Where step does not refuse t with 14, it never refuses u with 14; and never with 17 where it does not refuse t with 17 either.
+  pub refusals : (I m X J n Y : ℕ) → numberOf (stepOf t I m X) ≢ 14
+      → (numberOf (stepOf u J n Y) ≢ 14) × (numberOf (stepOf t I m X) ≢ 17 → numberOf (stepOf u J n Y) ≢ 17)
+
+-- For every table that check accepts, also where trim gives 12 or 13.
+unfoldable pub TrimmedStepsTheSame : Type 0
+TrimmedStepsTheSame = (t : List ℕ) (n : ℕ) (p : Statement) → tableOf t ≡ holds n p → AnswersTheSame t p (write (trimmed p))

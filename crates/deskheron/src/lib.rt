@@ -2,6 +2,7 @@
 // leaves untouched.
 use list::Answer;
 use reach::Reached;
+use step::Stepped;
 use table::Checked;
 use trim::Trimmed;
 ghost use mathlib.Core.Path.{_≡_};
@@ -12,7 +13,15 @@ ghost use Rattle.table.specs.Reading.{checkOf};
 ghost use Rattle.reach.specs.Answers.{reachOf};
 ghost use Rattle.trim.specs.Answers.{trimOf, bufferOf};
 ghost use Rattle.list.specs.Answers.{listOf};
+ghost use Rattle.step.specs.Answers.{stepOf};
 ghost use Rattle.deskheron.specs.Answers.{ListEntered};
+
+// The answers of step: one with its E, O, k and L; none; several.
+const ONE: u32 = 0;
+
+const NONE: u32 = 1;
+
+const SEVERAL: u32 = 2;
 
 // Check: the node count of a table.
 #[no_mangle]
@@ -105,4 +114,52 @@ pub extern "C" fn deskheron_list(
     };
     *count = n;
     0
+}
+
+// Step: the answer for the state of a mark and a label set from the provided signals, and where it is one, its E, O, k and L. The
+// cells of these are written for one alone.
+#[no_mangle]
+pub extern "C" fn deskheron_step(
+    table: &[u8],
+    provided: u32,
+    mark: u32,
+    labels: u64,
+    answer: &mut u32,
+    assumed: &mut u32,
+    emitted: &mut u32,
+    code: &mut u32,
+    reached: &mut u64,
+) -> u32
+    ensures { λ r. ⌜ r ≡ numberOf (stepOf (now (table .entry)) provided mark labels) ⌝ }
+    ensures { λ r. ⌜ now (answer .exit) ≡ cellAfter (stepOf (now (table .entry)) provided mark labels) 0 (now (answer .entry)) ⌝ }
+    ensures { λ r. ⌜ now (assumed .exit) ≡ cellAfter (stepOf (now (table .entry)) provided mark labels) 1 (now (assumed .entry)) ⌝ }
+    ensures { λ r. ⌜ now (emitted .exit) ≡ cellAfter (stepOf (now (table .entry)) provided mark labels) 2 (now (emitted .entry)) ⌝ }
+    ensures { λ r. ⌜ now (code .exit) ≡ cellAfter (stepOf (now (table .entry)) provided mark labels) 3 (now (code .entry)) ⌝ }
+    ensures { λ r. ⌜ now (reached .exit) ≡ cellAfter (stepOf (now (table .entry)) provided mark labels) 4 (now (reached .entry)) ⌝ }
+{
+    let stepped = step::step(table, provided, mark, labels);
+    match stepped {
+        Stepped::Refused(why) => why as u32,
+        Stepped::One {
+            assumed: e,
+            emitted: o,
+            code: k,
+            reached: l,
+        } => {
+            *answer = ONE;
+            *assumed = e;
+            *emitted = o;
+            *code = k as u32;
+            *reached = l;
+            0
+        }
+        Stepped::None => {
+            *answer = NONE;
+            0
+        }
+        Stepped::Several => {
+            *answer = SEVERAL;
+            0
+        }
+    }
 }
