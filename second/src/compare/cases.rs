@@ -1,15 +1,17 @@
 //! The second implementation by itself: cases A to L of document 01, and what must hold of it.
 
-use crate::listing::{signals, subsets, work};
+use crate::listing::{signals, work};
 use crate::made::{grown_tables, tables};
 use crate::reaching::made;
+use crate::stepping::examples;
 use crate::trial::{hex, Outcome};
 use crate::Amount;
 use second::codes::{d, rounds, s, Codes, Labels, Qualified::*};
-use second::list::too_many;
+use second::list::{state, too_many};
 use second::random::{statement, table, Random, TASTES};
 use second::react::{react, Reaction, State, State::*};
 use second::report::report;
+use second::step::{emitted_free, made_of, step, steps_under, subsets, Step};
 use second::table::{check, length, read, write, MOST_DEPTH, MOST_NODES};
 use second::text::{parse, print};
 use second::trim::trim_program;
@@ -207,6 +209,40 @@ pub fn trimmed_runs(amount: Amount) -> Outcome {
                 }
             }
             next = reached.into_iter().filter(|state| met.insert(*state)).take(5).collect();
+        }
+    }
+    Ok(())
+}
+
+/// The worked examples of order 1.
+pub fn stepped(_: Amount) -> Outcome {
+    examples().into_iter().try_for_each(|(p, asked, wanted)| {
+        let given = step(&write(&p), asked.signals, state(asked.mark, asked.labels));
+        same(&format!("step of {} from {:x}", print(&p), asked.signals), given, wanted)
+    })
+}
+
+/// No other E than those made of I and the signals that are emitted outside a declaration has a step:
+/// every E over four signals and one more is tried, from I's that have and lack that one. Programs that
+/// need much work are passed over.
+pub fn steps(amount: Amount) -> Outcome {
+    let mut random = Random(23);
+    for _ in 0..amount.of(2_000) {
+        let taste = &TASTES[random.below(4)];
+        let n = random.between(2, 24);
+        let p = statement(&mut random, taste, n, 60);
+        if work(&p) > 200 {
+            continue;
+        }
+        for state in [Start, Resumed(random.next())] {
+            for i in [0, random.below(16) as u32, 16 | random.below(16) as u32] {
+                let under = |sets: BTreeSet<u32>| -> Vec<Step> {
+                    sets.into_iter().flat_map(|e| steps_under(&p, state, i, e)).collect()
+                };
+                let looked_at = under(made_of(i, emitted_free(&p)));
+                let every = under(made_of(0, 31));
+                same(&format!("steps of {} from {i:x}", print(&p)), looked_at, every)?;
+            }
         }
     }
     Ok(())

@@ -1,6 +1,7 @@
 //! Comparing list, and the search along common runs of a table and its trimmed table.
 
 use crate::checking::edge_tables;
+use crate::stepping::same_answer;
 use crate::tool::Asked;
 use crate::trial::{Outcome, Seen, Trial};
 use crate::trimming::AMPLE;
@@ -9,6 +10,7 @@ use second::list::{state, too_many, MOST_REACTIONS, MOST_SIGNALS};
 use second::random::{any_table, statement, Random, Taste, TASTES};
 use second::react::react;
 use second::statement::Statement::{self, *};
+use second::step::subsets;
 use second::table::{read, write};
 use second::text::parse;
 use second::trees::*;
@@ -26,28 +28,18 @@ pub fn signals(p: &Statement) -> u32 {
     p.children().fold(own, |set, child| set | signals(child))
 }
 
-/// Every subset of a set.
-pub fn subsets(set: u64) -> impl Iterator<Item = u64> {
-    let mut next = Some(0);
-    std::iter::from_fn(move || {
-        let now = next?;
-        next = (now != set).then_some((now.wrapping_sub(set)) & set);
-        Some(now)
-    })
-}
-
 /// About how many lists the second implementation makes, so that tests stay short.
 pub fn work(p: &Statement) -> usize {
     let below: usize = p.children().map(work).sum();
     1 + if matches!(p, Signal(_, _)) { 2 * below } else { below }
 }
 
-pub fn start(assumed: u32) -> Asked {
-    Asked { assumed, mark: 0, labels: u64::MAX }
+pub fn start(signals: u32) -> Asked {
+    Asked { signals, mark: 0, labels: u64::MAX }
 }
 
-pub fn resumed(assumed: u32, labels: u64) -> Asked {
-    Asked { assumed, mark: 1, labels }
+pub fn resumed(signals: u32, labels: u64) -> Asked {
+    Asked { signals, mark: 1, labels }
 }
 
 /// Every tree of a few nodes over these leaves that check accepts, S0 being the only signal of inner
@@ -77,8 +69,8 @@ pub fn small_trees(t: &mut Trial, amount: Amount) -> Outcome {
 fn ask(t: &mut Trial, p: &Statement, asked: Asked) -> Outcome {
     let state = state(asked.mark, asked.labels);
     if p.nested_signals() <= 12
-        && too_many(p, state, asked.assumed)
-        && react(p, state, asked.assumed).len() <= MOST_REACTIONS
+        && too_many(p, state, asked.signals)
+        && react(p, state, asked.signals).len() <= MOST_REACTIONS
     {
         t.counts.see(Seen::InnerTooMany);
     }
@@ -224,7 +216,7 @@ pub fn random_programs(t: &mut Trial, amount: Amount) -> Outcome {
             };
             for labels in states {
                 let mark = random.pick(&[1, 2, 256, 65_536, u32::MAX]);
-                t.list(&table, Asked { assumed, mark, labels }, ROOMY)?;
+                t.list(&table, Asked { signals: assumed, mark, labels }, ROOMY)?;
             }
         }
     }
@@ -430,7 +422,7 @@ pub fn random_tables(t: &mut Trial, amount: Amount) -> Outcome {
             continue;
         }
         let asked = Asked {
-            assumed: random.next() as u32 | random.next() as u32,
+            signals: random.next() as u32 | random.next() as u32,
             mark: random.below(3) as u32,
             labels: random.next() & random.next(),
         };
@@ -460,9 +452,10 @@ pub fn runs(t: &mut Trial, amount: Amount) -> Outcome {
             let mut reached = BTreeSet::new();
             for &labels in &next {
                 for e in subsets(signals(&p).into()).take(16) {
-                    let asked = Asked { assumed: e as u32, mark: steps, labels };
+                    let asked = Asked { signals: e as u32, mark: steps, labels };
                     let here = t.list(&table, asked, ROOMY)?;
                     let there = t.list(&trimmed, asked, ROOMY)?;
+                    same_answer(t, [&table, &trimmed], asked, steps)?;
                     let (Some(here), Some(there)) = (here, there) else { continue };
                     if here != there {
                         return Err(format!(
