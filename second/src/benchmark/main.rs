@@ -1,6 +1,6 @@
 //! Times each operation of the proved library against the plain implementation, on the same
 //! generated tables in one process. What both answer is compared first: for reach its sets and
-//! rounds, for the others a refusal or the count.
+//! rounds, for step all that it gives, for the others a refusal or the count.
 //!
 //! Each figure is the best of several batches that take turns. Result buffers are not cleared
 //! before a call. A call includes everything that the operation does, the making ready of its

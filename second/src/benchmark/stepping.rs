@@ -39,12 +39,16 @@ fn step(row: &Row, asked: Asked) {
     time("step", row, &mut |table| by_library(table, asked), &mut |table| by_plain(table, asked));
 }
 
-/// One emit of each signal and a few pauses, joined at random to n nodes, or one more.
+/// One emit of each signal and as many pauses as n nodes leave room for, joined at random.
 fn small_program(random: &mut Random, n: usize, free: u8) -> Statement {
-    let pauses = (n / 2 + 1).saturating_sub(free.into()) as u8;
+    let pauses = n.div_ceil(2) as u8 - free;
     let mut parts: Vec<Statement> = (0..free).map(Emit).chain((1..=pauses).map(Pause)).collect();
     random.shuffle(&mut parts);
-    uneven(random, parts, &[parallel, sequence, present])
+    let joined = uneven(random, parts, &[parallel, sequence, present]);
+    if n % 2 == 0 {
+        return Try(joined.into());
+    }
+    joined
 }
 
 /// A random program of n nodes over so many signals, most of them emitted outside a declaration; where
@@ -123,7 +127,7 @@ pub fn steps(random: &mut Random, tables: usize) {
     sized(random, 100, 10, tables);
     for signals in [5, 10] {
         for reactions in [1, 2, 8, 32, 33, 62] {
-            let name = format!("{signals} signals apart, {reactions} reactions");
+            let name = format!("resumed, {signals} signals apart, {reactions} reactions");
             step(&one(name, apart(signals, reactions)), Asked { signals: 0, ..RESUMED });
         }
     }

@@ -355,18 +355,23 @@ pub fn many_sets(t: &mut Trial, amount: Amount) -> Outcome {
     Ok(())
 }
 
-/// Tables of depth 60 with lists that need list's largest area, of which no two E's can be looked at
-/// together: made to use as much stack as step can.
+/// A table of depth 60 with lists that need list's largest area, of which no two E's can be looked at
+/// together: made to use as much stack as step can. While a list of 32 reactions is held, one of 64 is
+/// made, and while that is held another, which each E has to itself; exits leave one reaction of these.
 pub fn largest_stack(t: &mut Trial, _: Amount) -> Outcome {
+    let pairs = |m, n, from| {
+        let side = |from, count| resumed_choices(from..=from + count - 1);
+        parallel(side(from, m), side(from + m, n))
+    };
+    let left_by = |label, p| Try(parallel(sequence(Pause(label), Exit(1)), p).into());
     let tests = each(0..10, |i| Present(i, Emit(i).into(), Nothing.into()));
-    let pairs = parallel(tests, parallel(choices(8), choices(8)));
-    let held = parallel(resumed_choices(33..=60), caught(sequence(Pause(61), pairs)));
-    let crowd = parallel(resumed_choices(1..=32), caught(held));
-    for join in [present, sequence, parallel] {
-        let chain = (0..57).fold(join(Pause(62), Pause(63)), |p, _| Try(p.into()));
-        let table = write(&parallel(crowd.clone(), chain));
-        t.step(&table, start(0))?;
-        t.step(&table, resumed(0, u64::MAX))?;
+    let told_apart = parallel(sequence(Pause(45), tests), pairs(8, 8, 29));
+    let held = parallel(pairs(8, 8, 13), left_by(47, told_apart));
+    let crowd = parallel(pairs(4, 8, 1), left_by(46, held));
+    let chain = (0..57).fold(sequence(Pause(62), Pause(63)), |p, _| Try(p.into()));
+    let table = write(&parallel(crowd, chain));
+    for asked in [start(0), resumed(0, u64::MAX)] {
+        t.step(&table, asked)?.ok_or("refused before its largest stack")?;
     }
     Ok(())
 }
