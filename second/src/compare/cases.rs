@@ -8,7 +8,7 @@ use crate::trial::{hex, Outcome};
 use crate::Amount;
 use second::codes::{d, rounds, s, Codes, Labels, Qualified::*};
 use second::list::{state, too_many};
-use second::random::{statement, table, Random, TASTES};
+use second::random::{program, table, Random};
 use second::react::{react, Reaction, State, State::*};
 use second::report::report;
 use second::step::{emitted_free, made_of, step, steps_under, subsets, Step};
@@ -137,9 +137,7 @@ pub fn round_trips(amount: Amount) -> Outcome {
 pub fn analysis(amount: Amount) -> Outcome {
     let mut random = Random(21);
     for _ in 0..amount.of(6_000) {
-        let taste = &TASTES[random.below(4)];
-        let n = random.between(1, 30);
-        let p = statement(&mut random, taste, n, 60);
+        let p = program(&mut random, 1, 30);
         let (r, i) = rounds(&p);
         same("rounds", i <= p.pauses().count_ones() as usize + 1, true)?;
         same("R among the pauses", r.iter().all(|label| p.pauses() >> label & 1 == 1), true)?;
@@ -177,13 +175,7 @@ pub fn analysis(amount: Amount) -> Outcome {
 pub fn trimmed_runs(amount: Amount) -> Outcome {
     let mut random = Random(22);
     for _ in 0..amount.of(6_000) {
-        let p = if random.one_in(4) {
-            made(&mut random)
-        } else {
-            let taste = &TASTES[random.below(4)];
-            let n = random.between(3, 40);
-            statement(&mut random, taste, n, 60)
-        };
+        let p = if random.one_in(4) { made(&mut random) } else { program(&mut random, 3, 40) };
         let q = trim_program(&p);
         if q.nodes() <= MOST_NODES && q.depth() <= MOST_DEPTH {
             same("check of a trimmed table", check(&write(&q)), Ok(q.nodes()))?;
@@ -228,9 +220,7 @@ pub fn stepped(_: Amount) -> Outcome {
 pub fn steps(amount: Amount) -> Outcome {
     let mut random = Random(23);
     for _ in 0..amount.of(2_000) {
-        let taste = &TASTES[random.below(4)];
-        let n = random.between(2, 24);
-        let p = statement(&mut random, taste, n, 60);
+        let p = program(&mut random, 2, 24);
         if work(&p) > 200 {
             continue;
         }

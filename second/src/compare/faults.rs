@@ -53,7 +53,7 @@ fn faults(operation: Operation) -> Vec<Fault> {
         faults.extend(buffers.iter().map(|lent| Fault::Beyond(Place { lent, last })));
     }
     if operation == Operation::Step {
-        faults.extend(MISTAKES.map(Fault::Wrong));
+        faults.extend(MISTAKES.iter().copied().map(Fault::Wrong));
     }
     faults
 }

@@ -7,7 +7,7 @@ use crate::trial::{Outcome, Seen, Trial};
 use crate::trimming::AMPLE;
 use crate::Amount;
 use second::list::{state, too_many, MOST_REACTIONS, MOST_SIGNALS};
-use second::random::{any_table, statement, Random, Taste, TASTES};
+use second::random::{any_table, program, statement, Random, Taste, TASTES};
 use second::react::react;
 use second::statement::Statement::{self, *};
 use second::step::subsets;
@@ -42,27 +42,35 @@ pub fn resumed(signals: u32, labels: u64) -> Asked {
     Asked { signals, mark: 1, labels }
 }
 
-/// Every tree of a few nodes over these leaves that check accepts, S0 being the only signal of inner
-/// nodes: at the start and resumed from every set of its own labels, with nothing assumed and, where
-/// the tree uses S0, with S0.
+/// Visits every tree of n nodes over these leaves that check accepts, S0 being the only signal of inner
+/// nodes: at the start and resumed from every set of its own labels, with every set of the signals that
+/// it uses.
+pub fn each_state(
+    n: usize,
+    leaves: &[Statement],
+    visit: &mut dyn FnMut(&[u8], Asked) -> Outcome,
+) -> Outcome {
+    each_tree(n, leaves, &mut |p| {
+        let table = write(p);
+        if read(&table).is_err() {
+            return Ok(());
+        }
+        for e in subsets(signals(p).into()) {
+            visit(&table, start(e as u32))?;
+            for labels in subsets(p.pauses()) {
+                visit(&table, resumed(e as u32, labels))?;
+            }
+        }
+        Ok(())
+    })
+}
+
+/// Every state of every tree of a few nodes over these leaves.
 pub fn small_trees(t: &mut Trial, amount: Amount) -> Outcome {
     let leaves = [Nothing, Pause(1), Pause(2), Gotopause(1), Emit(0), Exit(1)];
-    for n in 1..=amount.tree_nodes() {
-        each_tree(n, &leaves, &mut |p| {
-            let table = write(p);
-            if read(&table).is_err() {
-                return Ok(());
-            }
-            for e in subsets(signals(p).into()) {
-                t.list(&table, start(e as u32), ROOMY)?;
-                for labels in subsets(p.pauses()) {
-                    t.list(&table, resumed(e as u32, labels), ROOMY)?;
-                }
-            }
-            Ok(())
-        })?;
-    }
-    Ok(())
+    (1..=amount.tree_nodes()).try_for_each(|n| {
+        each_state(n, &leaves, &mut |table, asked| t.list(table, asked, ROOMY).map(|_| ()))
+    })
 }
 
 /// A search for the reason of a 15: whether it is given for an inner list alone.
@@ -192,15 +200,26 @@ pub fn buffers(t: &mut Trial, amount: Amount) -> Outcome {
     Ok(())
 }
 
+/// The start, and states resumed from every set of p's labels where there are at most two, else from
+/// so many random sets, by any mark.
+pub fn some_states(random: &mut Random, p: &Statement, signals: u32, count: usize) -> Vec<Asked> {
+    let labels: Vec<u64> = if p.pauses().count_ones() <= 2 {
+        subsets(p.pauses()).collect()
+    } else {
+        (0..count).map(|_| random.next() & (random.next() | p.pauses())).collect()
+    };
+    let mut mark = || random.pick(&[1, 2, 256, 65_536, u32::MAX]);
+    let resumed = labels.into_iter().map(|labels| Asked { signals, mark: mark(), labels });
+    std::iter::once(start(signals)).chain(resumed).collect()
+}
+
 /// Random programs of 3 to 40 nodes, under the first 16 sets of their signals, at the start and
 /// resumed from every set of their labels where there are at most two, else from five random sets.
 /// Programs whose listing would take too long are passed over.
 pub fn random_programs(t: &mut Trial, amount: Amount) -> Outcome {
     let mut random = Random(9);
     for _ in 0..amount.of(8_000) {
-        let taste = &TASTES[random.below(4)];
-        let n = random.between(3, 40);
-        let p = statement(&mut random, taste, n, 60);
+        let p = program(&mut random, 3, 40);
         if work(&p) > 2_000 {
             continue;
         }
@@ -208,15 +227,8 @@ pub fn random_programs(t: &mut Trial, amount: Amount) -> Outcome {
         let noise = random.next();
         for e in subsets(signals(&p).into()).take(16) {
             let assumed = e as u32 | noise as u32 & !signals(&p);
-            t.list(&table, start(assumed), ROOMY)?;
-            let states: Vec<u64> = if p.pauses().count_ones() <= 2 {
-                subsets(p.pauses()).collect()
-            } else {
-                (0..5).map(|_| random.next() & (random.next() | p.pauses())).collect()
-            };
-            for labels in states {
-                let mark = random.pick(&[1, 2, 256, 65_536, u32::MAX]);
-                t.list(&table, Asked { signals: assumed, mark, labels }, ROOMY)?;
+            for asked in some_states(&mut random, &p, assumed, 5) {
+                t.list(&table, asked, ROOMY)?;
             }
         }
     }
@@ -408,6 +420,15 @@ pub fn told_apart(t: &mut Trial, _: Amount) -> Outcome {
     Ok(())
 }
 
+/// Most signals, and the start or a state with a few labels.
+pub fn any_state(random: &mut Random) -> Asked {
+    Asked {
+        signals: random.next() as u32 | random.next() as u32,
+        mark: random.below(3) as u32,
+        labels: random.next() & random.next(),
+    }
+}
+
 /// The edges of check, and random tables, valid and damaged, with buffers of any length up to 70
 /// reactions. Programs whose listing would take too long are passed over.
 pub fn random_tables(t: &mut Trial, amount: Amount) -> Outcome {
@@ -421,11 +442,7 @@ pub fn random_tables(t: &mut Trial, amount: Amount) -> Outcome {
         if read(&table).is_ok_and(|p| p.nested_signals() <= 12 && work(&p) > 4_000) {
             continue;
         }
-        let asked = Asked {
-            signals: random.next() as u32 | random.next() as u32,
-            mark: random.below(3) as u32,
-            labels: random.next() & random.next(),
-        };
+        let asked = any_state(&mut random);
         let lent = if random.one_in(3) { ROOMY.map(|b| random.below(b)) } else { ROOMY };
         t.list(&table, asked, lent)?;
     }
@@ -438,9 +455,7 @@ pub fn random_tables(t: &mut Trial, amount: Amount) -> Outcome {
 pub fn runs(t: &mut Trial, amount: Amount) -> Outcome {
     let mut random = Random(11);
     for _ in 0..amount.of(10_000) {
-        let taste = &TASTES[random.below(4)];
-        let n = random.between(5, 36);
-        let p = statement(&mut random, taste, n, 60);
+        let p = program(&mut random, 5, 36);
         if work(&p) > 1_000 {
             continue;
         }

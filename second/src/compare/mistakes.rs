@@ -9,56 +9,46 @@ use second::statement::Statement::{self, *};
 use second::step::{answer, emitted_free, made_of, Answer, Step, MOST_FREE};
 use second::table::{read, Refusal};
 
-#[derive(Clone, Copy, Debug, PartialEq, Eq)]
-pub enum Mistake {
+macro_rules! mistakes {
+    ($($(#[$meaning:meta])* $mistake:ident)*) => {
+        #[derive(Clone, Copy, Debug, PartialEq, Eq)]
+        pub enum Mistake { $($(#[$meaning])* $mistake,)* }
+        pub const MISTAKES: &[Mistake] = &[$(Mistake::$mistake),*];
+    };
+}
+
+mistakes! {
     /// E is the provided set alone
-    ProvidedAlone,
+    ProvidedAlone
     /// a reaction need not emit what E has beyond the provided set
-    NotEmitted,
+    NotEmitted
     /// the provided set is given for E
-    ProvidedGiven,
+    ProvidedGiven
     /// provided signals that the table does not name are left out of E
-    ForeignForgotten,
+    ForeignForgotten
     /// the first step found is the answer
-    FirstFound,
+    FirstFound
     /// a reaction that both rules of a declaration derive is taken for two
-    DerivedTwice,
+    DerivedTwice
     /// a signal counts for 17 though it is emitted inside declarations of it alone
-    DeclaredCounted,
+    DeclaredCounted
     /// a signal does not count for 17 where it is declared elsewhere
-    DeclaredElsewhere,
+    DeclaredElsewhere
     /// each emit counts for 17, not each signal
-    EmitsCounted,
+    EmitsCounted
     /// provided signals do not count for 17
-    ProvidedUncounted,
+    ProvidedUncounted
     /// 17 comes before 14
-    SeventeenFirst,
+    SeventeenFirst
     /// 15 is looked for under the provided set alone
-    CrowdedUnderProvided,
+    CrowdedUnderProvided
     /// 15 is given only where that E has a step
-    CrowdedWithStep,
+    CrowdedWithStep
     /// the labels count at the start
-    LabelsAtStart,
+    LabelsAtStart
 }
 
 use Mistake::*;
-
-pub const MISTAKES: [Mistake; 14] = [
-    ProvidedAlone,
-    NotEmitted,
-    ProvidedGiven,
-    ForeignForgotten,
-    FirstFound,
-    DerivedTwice,
-    DeclaredCounted,
-    DeclaredElsewhere,
-    EmitsCounted,
-    ProvidedUncounted,
-    SeventeenFirst,
-    CrowdedUnderProvided,
-    CrowdedWithStep,
-    LabelsAtStart,
-];
 
 /// Each signal of an emit and of a declaration, as often as it stands there.
 fn emitted_and_declared(p: &Statement) -> (Vec<u8>, u32) {

@@ -1,12 +1,14 @@
 //! Comparing step.
 
 use crate::checking::edge_tables;
-use crate::listing::{inside_signals, resumed, signals, start, work};
+use crate::listing::{
+    any_state, each_state, inside_signals, resumed, signals, some_states, start, work,
+};
 use crate::tool::Asked;
 use crate::trial::{Outcome, Seen, Trial};
 use crate::Amount;
 use second::list::{state, too_many, MOST_REACTIONS, MOST_SIGNALS};
-use second::random::{any_table, sized_table, statement, Random, Taste, TASTES};
+use second::random::{any_table, program, sized_table, statement, Random, Taste};
 use second::react::{react, Reaction};
 use second::statement::Statement::{self, *};
 use second::step::{emitted_free, made_of, steps_under, subsets, Answer, Step, MOST_FREE};
@@ -84,33 +86,17 @@ pub fn examples() -> Vec<Example> {
     ]
 }
 
-/// The states to look at: the start, and resumed from every set of the labels.
-fn states(signals: u32, labels: u64) -> impl Iterator<Item = Asked> {
-    std::iter::once(start(signals)).chain(subsets(labels).map(move |set| resumed(signals, set)))
-}
-
-/// Every tree of a few nodes over these leaves that check accepts, S0 being the only signal of inner
-/// nodes: at the start and resumed from every set of its own labels, with every set of the signals
-/// that it uses provided, and beyond them now S31 and now nothing.
+/// Every state of every tree of a few nodes over these leaves, S31 being provided too at every second
+/// call.
 pub fn small_trees(t: &mut Trial, amount: Amount) -> Outcome {
     let leaves = [Nothing, Pause(1), Pause(2), Gotopause(1), Emit(0), Emit(1), Exit(1)];
     let mut beyond = 0;
-    for n in 1..amount.tree_nodes() {
-        each_tree(n, &leaves, &mut |p| {
-            let table = write(p);
-            if read(&table).is_err() {
-                return Ok(());
-            }
-            for provided in subsets(signals(p).into()) {
-                beyond ^= 1 << 31;
-                for asked in states(provided as u32 | beyond, p.pauses()) {
-                    t.step(&table, asked)?;
-                }
-            }
-            Ok(())
-        })?;
-    }
-    Ok(())
+    (1..amount.tree_nodes()).try_for_each(|n| {
+        each_state(n, &leaves, &mut |table, asked| {
+            beyond ^= 1 << 31;
+            t.step(table, Asked { signals: asked.signals | beyond, ..asked }).map(|_| ())
+        })
+    })
 }
 
 /// Steps, and sees whether one E alone, or the single E's one by one, would have told less.
@@ -291,25 +277,15 @@ fn cost(p: &Statement, provided: u32) -> usize {
 pub fn random_programs(t: &mut Trial, amount: Amount) -> Outcome {
     let mut random = Random(15);
     for _ in 0..amount.of(6_000) {
-        let taste = &TASTES[random.below(4)];
-        let n = random.between(3, 40);
-        let p = statement(&mut random, taste, n, 60);
+        let p = program(&mut random, 3, 40);
         if cost(&p, 0) > 2_000 {
             continue;
         }
         let table = write(&p);
         let noise = random.next() as u32 & !signals(&p);
         for provided in subsets(signals(&p).into()).take(8) {
-            let signals = provided as u32 | noise;
-            t.step(&table, start(signals))?;
-            let labels: Vec<u64> = if p.pauses().count_ones() <= 2 {
-                subsets(p.pauses()).collect()
-            } else {
-                (0..3).map(|_| random.next() & (random.next() | p.pauses())).collect()
-            };
-            for labels in labels {
-                let mark = random.pick(&[1, 2, 256, 65_536, u32::MAX]);
-                t.step(&table, Asked { signals, mark, labels })?;
+            for asked in some_states(&mut random, &p, provided as u32 | noise, 3) {
+                t.step(&table, asked)?;
             }
         }
     }
@@ -390,11 +366,7 @@ pub fn random_tables(t: &mut Trial, amount: Amount) -> Outcome {
             let n = random.between(100, 1024);
             table = sized_table(&mut random, n);
         }
-        let asked = Asked {
-            signals: random.next() as u32 | random.next() as u32,
-            mark: random.below(3) as u32,
-            labels: random.next() & random.next(),
-        };
+        let asked = any_state(&mut random);
         let long = |p: &Statement| {
             p.nested_signals() <= MOST_SIGNALS
                 && emitted_free(p).count_ones() <= MOST_FREE
