@@ -171,7 +171,7 @@ pub fn analysis(amount: Amount) -> Outcome {
 /// Trimmed programs have the same reactions along runs of up to six steps, by the rules alone, under
 /// the first eight sets of their signals and from five new states a step at most, but for programs
 /// that need much work and lists of over 64 reactions; a trimmed table that is not refused is accepted
-/// by check.
+/// by check, and earns 14 and 17 only where its source does.
 pub fn trimmed_runs(amount: Amount) -> Outcome {
     let mut random = Random(22);
     for _ in 0..amount.of(6_000) {
@@ -180,6 +180,8 @@ pub fn trimmed_runs(amount: Amount) -> Outcome {
         if q.nodes() <= MOST_NODES && q.depth() <= MOST_DEPTH {
             same("check of a trimmed table", check(&write(&q)), Ok(q.nodes()))?;
         }
+        same("signals nested deeper", q.nested_signals() > p.nested_signals(), false)?;
+        same("signals emitted outside more", emitted_free(&q) & !emitted_free(&p), 0)?;
         if work(&p) > 500 || read(&write(&p)).is_err() {
             continue;
         }

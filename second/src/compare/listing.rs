@@ -250,7 +250,7 @@ fn ambiguous(random: &mut Random, levels: usize) -> Statement {
 }
 
 /// A program with many reactions in a state: one for each label, and choices after it.
-fn crowded(random: &mut Random) -> Statement {
+pub fn crowded(random: &mut Random) -> Statement {
     let blocks = (1..=random.between(2, 20) as u8)
         .map(|label| {
             let levels = random.below(4);
@@ -330,7 +330,7 @@ fn testing(random: &mut Random, signals: u8, n: usize) -> Statement {
 
 /// A program inside so many signals, most of which it emits and tests. Between them, now and then, a
 /// loop, a try or another part; now and then one signal is declared twice.
-fn tested(random: &mut Random, signals: u8, n: usize) -> Statement {
+pub fn tested(random: &mut Random, signals: u8, n: usize) -> Statement {
     let body = match random.below(6) {
         0 | 1 => {
             let tests = random.between(1, if signals > 8 { 8 } else { 10 });

@@ -101,6 +101,7 @@ fn groups(operation: Operation) -> &'static [Group] {
             ("the largest stack", stepping::largest_stack),
             ("random programs", stepping::random_programs),
             ("1 to 1,024 sets E", stepping::many_sets),
+            ("crowded programs", stepping::crowded_programs),
             ("edges and random tables", stepping::random_tables),
         ],
     }

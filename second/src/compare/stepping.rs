@@ -2,7 +2,8 @@
 
 use crate::checking::edge_tables;
 use crate::listing::{
-    any_state, each_state, inside_signals, resumed, signals, some_states, start, work,
+    any_state, crowded, each_state, inside_signals, resumed, signals, some_states, start, tested,
+    work,
 };
 use crate::tool::Asked;
 use crate::trial::{Outcome, Seen, Trial};
@@ -91,7 +92,7 @@ pub fn examples() -> Vec<Example> {
 pub fn small_trees(t: &mut Trial, amount: Amount) -> Outcome {
     let leaves = [Nothing, Pause(1), Pause(2), Gotopause(1), Emit(0), Emit(1), Exit(1)];
     let mut beyond = 0;
-    (1..amount.tree_nodes()).try_for_each(|n| {
+    (1..=amount.tree_nodes()).try_for_each(|n| {
         each_state(n, &leaves, &mut |table, asked| {
             beyond ^= 1 << 31;
             t.step(table, Asked { signals: asked.signals | beyond, ..asked }).map(|_| ())
@@ -233,7 +234,7 @@ pub fn crowded_sets(t: &mut Trial, _: Amount) -> Outcome {
 /// E's tell apart up to 1,024 ways to react, though each has few. They stand alone, beside so many
 /// reactions of their own, inside signals that are tested too, in a loop, and where only one E has over
 /// 64 reactions.
-pub fn told_apart(t: &mut Trial, amount: Amount) -> Outcome {
+pub fn told_apart(t: &mut Trial, _: Amount) -> Outcome {
     for count in 5..=10 {
         let test = |i| Present(i, Emit(i).into(), Gotopause(i + 1).into());
         let tests = each(0..count, test);
@@ -241,17 +242,15 @@ pub fn told_apart(t: &mut Trial, amount: Amount) -> Outcome {
         let locals = each(20..23, |i| Present(i, Emit(i).into(), Emit(30 - count).into()));
         let inside = (20..23).fold(parallel(tests.clone(), locals), |p, i| Signal(i, p.into()));
         let last = (0..count).fold(product(5, 13), |p, i| Present(i, p.into(), Nothing.into()));
-        let mut programs = vec![
+        let programs = [
             tests.clone(),
             parallel(tests.clone(), choices(3)),
             Loop(sequence(Pause(63), tests.clone()).into()),
             caught(tests),
             parallel(quiet.clone(), last),
             quiet,
+            inside,
         ];
-        if count < 8 || amount.0 > 100 {
-            programs.push(inside);
-        }
         let all = (1 << count) - 1;
         for p in programs {
             let paused = sequence(Pause(62), p.clone());
@@ -304,14 +303,16 @@ fn many_signals(random: &mut Random, count: u8, n: usize) -> Statement {
 }
 
 /// Random programs that emit and test up to 12 signals, with so many of them provided that each number
-/// of E's is met. The more E's, the fewer and the smaller the programs.
+/// of E's is met. The more E's, the fewer and the smaller the programs; with up to 16, a few have
+/// hundreds of nodes.
 pub fn many_sets(t: &mut Trial, amount: Amount) -> Outcome {
     let mut random = Random(16);
     for unknown in 0..=MOST_FREE {
-        let mut left = amount.of(1_600.min(60 << (MOST_FREE - unknown)));
+        let mut left = amount.of(1_600.min(40 << (MOST_FREE - unknown)));
         while left > 0 {
             let count = random.between(2.max(unknown as usize), 12) as u8;
-            let n = random.between(2 * unknown as usize + 4, 50);
+            let most = if unknown <= 4 && random.one_in(10) { 600 } else { 50 };
+            let n = random.between(2 * unknown as usize + 4, most);
             let p = many_signals(&mut random, count, n);
             let mut provided = random.next() as u32;
             for signal in 0..count {
@@ -319,13 +320,34 @@ pub fn many_sets(t: &mut Trial, amount: Amount) -> Outcome {
                     provided &= !(1 << signal);
                 }
             }
-            if cost(&p, provided) > 400_000 {
+            if cost(&p, provided) > 200_000 {
                 continue;
             }
             left -= 1;
             t.step(&write(&p), start(provided))?;
             t.step(&write(&p), resumed(provided, u64::MAX))?;
             t.step(&write(&p), resumed(provided, random.next()))?;
+        }
+    }
+    Ok(())
+}
+
+/// Programs with many reactions, and programs inside 0 to 8 signals that have many tests of them, both
+/// with a few signals that are emitted outside a declaration.
+pub fn crowded_programs(t: &mut Trial, amount: Amount) -> Outcome {
+    let mut random = Random(18);
+    for i in 0..amount.of(2_000) {
+        let n = random.between(4, 30);
+        let p = match i % 3 {
+            0 => crowded(&mut random),
+            _ => tested(&mut random, (i % 9) as u8, n),
+        };
+        if p.nested_signals() > MOST_SIGNALS || cost(&p, 0) > 40_000 {
+            continue;
+        }
+        let provided = random.next() as u32 & random.next() as u32;
+        for asked in [start(provided), resumed(provided, random.next() | random.next())] {
+            t.step(&write(&p), asked)?;
         }
     }
     Ok(())
