@@ -3,7 +3,7 @@
 use crate::listing::{signals, work};
 use crate::made::{grown_tables, tables};
 use crate::reaching::made;
-use crate::stepping::examples;
+use crate::stepping::{examples, ten_signals};
 use crate::trial::{hex, Outcome};
 use crate::Amount;
 use second::codes::{d, rounds, s, Codes, Labels, Qualified::*};
@@ -210,7 +210,7 @@ pub fn trimmed_runs(amount: Amount) -> Outcome {
 
 /// The worked examples of order 1.
 pub fn stepped(_: Amount) -> Outcome {
-    examples().into_iter().try_for_each(|(p, asked, wanted)| {
+    examples().into_iter().chain([ten_signals()]).try_for_each(|(p, asked, wanted)| {
         let given = step(&write(&p), asked.signals, state(asked.mark, asked.labels));
         same(&format!("step of {} from {:x}", print(&p), asked.signals), given, wanted)
     })

@@ -52,9 +52,19 @@ fn with_s0(crowd: Statement) -> Statement {
     parallel(Present(0, crowd.into(), Nothing.into()), dead(Emit(0)))
 }
 
-/// The worked examples of order 1.
+/// The answer "one" under E that emits O and ends.
+fn one(e: u32, o: u32) -> Result<Answer, Refusal> {
+    Ok(Answer::One(Step { e, r: Reaction { o, k: 0, l: 0 } }))
+}
+
+/// Ten signals that are emitted outside a declaration, none of them provided.
+pub fn ten_signals() -> Example {
+    (each(0..10, Emit), start(0), one(1023, 1023))
+}
+
+/// The worked examples of order 1. An accepted call with ten signals emitted outside a declaration is
+/// provided with all of them here, so that there is one E.
 pub fn examples() -> Vec<Example> {
-    let one = |e, o| Ok(Answer::One(Step { e, r: Reaction { o, k: 0, l: 0 } }));
     let (then, other) = ("present S0 then emit S0 end", "present S0 else emit S0 end");
     let local = format!("signal S0 in {then} end");
     let [full, over] = crowds().map(with_s0);
@@ -100,7 +110,8 @@ pub fn small_trees(t: &mut Trial, amount: Amount) -> Outcome {
     })
 }
 
-/// Steps, and sees whether one E alone, or the single E's one by one, would have told less.
+/// Steps, and sees whether 15 is due to E's without a step alone, and whether an accepted call's E's
+/// have more reactions together than one list may have.
 fn ask(t: &mut Trial, p: &Statement, asked: Asked) -> Outcome {
     let answer = t.step(&write(p), asked)?;
     let (state, i) = (state(asked.mark, asked.labels), asked.signals);
@@ -123,7 +134,7 @@ fn ask(t: &mut Trial, p: &Statement, asked: Asked) -> Outcome {
 
 /// The worked examples with other sets provided and resumed; those with few signals in every way.
 pub fn worked(t: &mut Trial, _: Amount) -> Outcome {
-    for (p, asked, _) in examples() {
+    for (p, asked, _) in examples().into_iter().chain([ten_signals()]) {
         t.step(&write(&p), asked)?;
         let paused = sequence(Pause(1), p.clone());
         for signals in [0, 1, 2, 1023, 1 << 31, u32::MAX] {
