@@ -132,7 +132,7 @@ fn ask(t: &mut Trial, p: &Statement, asked: Asked) -> Outcome {
     Ok(())
 }
 
-/// The worked examples with other sets provided and resumed; those with few signals in every way.
+/// The worked examples, also with other sets provided, behind a pause, and resumed.
 pub fn worked(t: &mut Trial, _: Amount) -> Outcome {
     for (p, asked, _) in examples().into_iter().chain([ten_signals()]) {
         t.step(&write(&p), asked)?;
@@ -211,46 +211,47 @@ pub fn nested_and_free(t: &mut Trial, _: Amount) -> Outcome {
     Ok(())
 }
 
+/// A crowd, one of whose reactions is left, and one behind a pause, each started where S0, or S0 and S1,
+/// are there, or are not.
+fn started_by_tests(crowd: Statement) -> Vec<Statement> {
+    let test = |s, p: Statement, q: Statement| Present(s, p.into(), q.into());
+    let paused = sequence(Pause(62), crowd.clone());
+    let started = |p: Statement| {
+        let both = test(0, test(1, p.clone(), Nothing), Nothing);
+        let neither = test(0, Nothing, test(1, Nothing, p.clone()));
+        [test(0, p.clone(), Nothing), test(0, Nothing, p), both, neither]
+    };
+    [caught(crowd.clone()), crowd, paused].into_iter().flat_map(started).collect()
+}
+
 /// 64 and 65 reactions under some E and one under the others, in the table's own list and in an inner
 /// one. The E's have or lack S0, or S0 and S1; both, one or none of these are provided, and emitted or
 /// not.
 pub fn crowded_sets(t: &mut Trial, _: Amount) -> Outcome {
-    for crowd in crowds() {
-        let paused = sequence(Pause(62), crowd.clone());
-        for crowd in [caught(crowd.clone()), crowd, paused] {
-            let test =
-                |s, p: &Statement, q: &Statement| Present(s, p.clone().into(), q.clone().into());
-            let with = test(0, &crowd, &Nothing);
-            let without = test(0, &Nothing, &crowd);
-            let both = test(0, &test(1, &crowd, &Nothing), &Nothing);
-            let neither = test(0, &Nothing, &test(1, &Nothing, &crowd));
-            for body in [with, without, both, neither] {
-                let emits = [dead(each(0..2, Emit)), Emit(0), parallel(Emit(1), dead(Emit(0)))];
-                for emit in emits {
-                    let paused = sequence(Pause(61), parallel(body.clone(), emit.clone()));
-                    let p = parallel(body.clone(), emit);
-                    for provided in [0, 1, 2, 3, 1 << 31] {
-                        ask(t, &p, start(provided))?;
-                        ask(t, &paused, resumed(provided, 1 << 61))?;
-                        ask(t, &paused, resumed(provided, u64::MAX))?;
-                    }
-                }
+    let emits = [dead(each(0..2, Emit)), Emit(0), parallel(Emit(1), dead(Emit(0)))];
+    for body in crowds().into_iter().flat_map(started_by_tests) {
+        for emit in &emits {
+            let p = parallel(body.clone(), emit.clone());
+            let paused = sequence(Pause(61), p.clone());
+            for provided in [0, 1, 2, 3, 1 << 31] {
+                ask(t, &p, start(provided))?;
+                ask(t, &paused, resumed(provided, 1 << 61))?;
+                ask(t, &paused, resumed(provided, u64::MAX))?;
             }
         }
     }
-    crowds().into_iter().try_for_each(|crowd| ask(t, &with_s0(crowd), start(0)))
+    Ok(())
 }
 
 /// Tests side by side of signals that are emitted outside a declaration, 5 to 10 of them: together the
-/// E's tell apart up to 1,024 ways to react, though each has few. They stand alone, beside so many
-/// reactions of their own, inside signals that are tested too, in a loop, and where only one E has over
-/// 64 reactions.
+/// E's tell apart up to 1,024 ways to react, though each has few. They stand alone, beside reactions of
+/// their own, in a loop, inside signals that are tested too, and where only one E has over 64 reactions.
 pub fn told_apart(t: &mut Trial, _: Amount) -> Outcome {
     for count in 5..=10 {
         let test = |i| Present(i, Emit(i).into(), Gotopause(i + 1).into());
         let tests = each(0..count, test);
         let quiet = each(0..count, |i| Present(i, Nothing.into(), dead(Emit(i)).into()));
-        let locals = each(20..23, |i| Present(i, Emit(i).into(), Emit(30 - count).into()));
+        let locals = each(20..23, |i| Present(i, Emit(i).into(), Emit(0).into()));
         let inside = (20..23).fold(parallel(tests.clone(), locals), |p, i| Signal(i, p.into()));
         let last = (0..count).fold(product(5, 13), |p, i| Present(i, p.into(), Nothing.into()));
         let programs = [
@@ -313,9 +314,9 @@ fn many_signals(random: &mut Random, count: u8, n: usize) -> Statement {
     statement(random, &taste, n, 30)
 }
 
-/// Random programs that emit and test up to 12 signals, with so many of them provided that each number
-/// of E's is met. The more E's, the fewer and the smaller the programs; with up to 16, a few have
-/// hundreds of nodes.
+/// Random programs that emit and test up to 12 signals, with all but so many provided of those that are
+/// emitted outside a declaration. The more E's, the fewer and the smaller the programs; with up to 16, a
+/// few have hundreds of nodes.
 pub fn many_sets(t: &mut Trial, amount: Amount) -> Outcome {
     let mut random = Random(16);
     for unknown in 0..=MOST_FREE {
@@ -325,12 +326,12 @@ pub fn many_sets(t: &mut Trial, amount: Amount) -> Outcome {
             let most = if unknown <= 4 && random.one_in(10) { 600 } else { 50 };
             let n = random.between(2 * unknown as usize + 4, most);
             let p = many_signals(&mut random, count, n);
-            let mut provided = random.next() as u32;
-            for signal in 0..count {
-                if (emitted_free(&p) & !provided).count_ones() < unknown {
-                    provided &= !(1 << signal);
-                }
-            }
+            let free = emitted_free(&p);
+            let mut left_out: Vec<u8> = (0..count).filter(|s| free >> s & 1 == 1).collect();
+            random.shuffle(&mut left_out);
+            left_out.truncate(unknown as usize);
+            let all = random.next() as u32 | free;
+            let provided = left_out.into_iter().fold(all, |set, signal| set & !(1 << signal));
             if cost(&p, provided) > 200_000 {
                 continue;
             }
