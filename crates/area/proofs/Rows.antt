@@ -1,20 +1,21 @@
 -- Rows in an area: the order by their words, reading them, and where one more belongs among rows in order.
 use mathlib.Core.Path.{_≡_, refl, sym, ap, _∙_, subst}
-use mathlib.Core.Bool.{Bool, true, false}
-use mathlib.Core.Logic.{inl, inr}
+use mathlib.Core.Bool.{Bool, true, false, _&&_}
+use mathlib.Core.Logic.{_≢_, inl, inr}
 use mathlib.Core.List.{List, [], _∷_, _++_}
 use Prim.Native.Nat.{ℕ, zero, suc, _+_, _*_, _-_, _/_, _%_, _^_, _≤_, _<_}
 use native.Mathlib.Omega.{arith}
 use native.Mathlib.Decide.{decLt}
-use lib.Dec.{ltb}
+use lib.Dec.{ltb, eqb}
 use lib.ListN.{length, getD}
-use lib.Bits.{bitOr, or-shr, or-mod}
+use lib.Bits.{bitOr, bitAnd, or-shr, or-mod}
 use borrow.Author.Tests.{lt-ltb, le-ltb, eq-eqb}
-use Rattle.sets.specs.Set.{only, _union_, _without_}
+use Rattle.sets.specs.Set.{only, _union_, _intersect_, _minus_, _without_}
+use Rattle.sets.proofs.Booleans.{eqb-differ}
 use Rattle.sets.proofs.Members.{only-fits}
 use Rattle.sets.proofs.Words.{only-below, minus-below}
 use Rattle.esterel.specs.Listing.{Listed, reaction}
-use Rattle.esterel.specs.inner.Conditions.{condition, both, forget}
+use Rattle.esterel.specs.inner.Conditions.{condition, holds, both, forget}
 use Rattle.esterel.specs.inner.Rows.{Row, rowWhen}
 use Rattle.esterel.specs.inner.CappedRows.{lessOr, beforeRow, insertRow}
 use Rattle.area.specs.inner.Layout.{conditionIn, packed}
@@ -219,6 +220,21 @@ condition-parts d on off h a b =
     let i : d / 2 ^ 12 % 2 ^ 12 ≡ on = omega arith in
     let j : d % 2 ^ 12 ≡ off = omega arith in
     λ n. condition (i n) (j n)
+
+-- ---- a set of slots meets a condition
+module _ (w F on out : ℕ) (e : on ≡ w / 2 ^ 12 % 2 ^ 12) (f : out ≡ on minus F) where
+  on-test : eqb (w / 2 ^ 12 % 2 ^ 12 minus F) 0 ≡ eqb out 0
+  on-test = ap (λ (z : ℕ). eqb z 0) (ap (λ (z : ℕ). z minus F) (sym e) ∙ sym f)
+
+  pub not-met : out ≢ 0 → false ≡ holds (conditionIn w) F
+  unfolding holds
+  not-met h = sym (ap (λ (b : Bool). b && eqb (w % 2 ^ 12 intersect F) 0) (on-test ∙ eqb-differ out 0 h))
+
+  pub is-met : (off : ℕ) → out ≡ 0 → off ≡ w % 2 ^ 12 → eqb (bitAnd off F) 0 ≡ holds (conditionIn w) F
+  unfolding holds _intersect_
+  is-met off h g =
+      ap (λ (z : ℕ). eqb (bitAnd z F) 0) g
+      ∙ sym (ap (λ (b : Bool). b && eqb (bitAnd (w % 2 ^ 12) F) 0) (on-test ∙ eq-eqb out 0 h))
 
 -- ---- slots in words
 module _ (s r : ℕ) (h : s < 12) (e : r ≡ only s % 2 ^ 64) where

@@ -1,44 +1,55 @@
--- A reaction emits only signals that are assumed: emit reacts only where its signal is, and a local signal is hidden.
+-- A reaction emits only signals that are assumed: emit reacts only where its signal is, and a local signal is hidden. And it emits only
+-- signals that an emit outside a declaration of them names.
 use mathlib.Core.Path.{_≡_, sym, ap, _∙_, subst}
-use mathlib.Core.Logic.{_⊎_, inl, inr}
-use mathlib.Core.Bool.{true, not}
+use mathlib.Core.Bool.{true}
 use Prim.Native.Nat.{ℕ, _^_, _<_}
-use native.Mathlib.Decide.{decLt, ℕ-discrete}
+use native.Mathlib.Decide.{decLt}
 use native.Mathlib.Omega.{arith}
 use Rattle.sets.specs.Set.{has, only, _union_, _without_, Within}
-use Rattle.sets.proofs.Booleans.{or-cases, and-cases, clash}
-use Rattle.sets.proofs.Members.{has-empty, has-union, has-minus, has-only-equal, has-without-same, has-without-other, fits, past-width}
-use Rattle.esterel.specs.Statement.{Statement}
+use Rattle.sets.proofs.Booleans.{clash}
+use Rattle.sets.proofs.Members.{has-empty, has-only-equal, has-without-other, fits, past-width}
+use Rattle.esterel.specs.Statement.{Statement, nothing, pause, gotopause, emit, exit, signal, present, sequence, parallel, loop, try}
 use Rattle.esterel.specs.Reactions.{State, Derives}
 use Rattle.esterel.specs.Reactions as rule
+use Rattle.esterel.specs.Stepping.{emittedFree}
+use Rattle.esterel.proofs.Conditions.{either, in-left, in-right, other}
+
+-- ---- sets of emitted signals
 
 none : (O E : ℕ) → O ≡ 0 → Within O E
 none O E e x h = clash (sym (ap (λ (z : ℕ). has z x) e) ∙ h) (has-empty x)
 
 both : (O O₁ O₂ E : ℕ) → O ≡ O₁ union O₂ → Within O₁ E → Within O₂ E → Within O E
-both O O₁ O₂ E e f g x h = go (or-cases (has O₁ x) (has O₂ x) (sym (has-union O₁ O₂ x) ∙ sym (ap (λ (z : ℕ). has z x) e) ∙ h))
-  where
-    go : (has O₁ x ≡ true) ⊎ (has O₂ x ≡ true) → has E x ≡ true
-    go (inl k) = f x k
-    go (inr k) = g x k
+both O O₁ O₂ E e f g x h = either O₁ O₂ x (sym (ap (λ (z : ℕ). has z x) e) ∙ h) (f x) (g x)
 
 -- below a local signal S
 hidden : (O O₁ E S : ℕ) → O ≡ O₁ without S → Within O₁ (E union only S) → Within O E
-hidden O O₁ E S e f x h = go (ℕ-discrete S x)
-  where
-    there : has (O₁ without S) x ≡ true
-    there = sym (ap (λ (z : ℕ). has z x) e) ∙ h
-
-    go : Dec (S ≡ x) → has E x ≡ true
-    go (yes d) = clash (ap (has (O₁ without S)) d ∙ there) (has-without-same O₁ S)
-    go (no d) = outer (or-cases (has E x) (has (only S) x) (sym (has-union E (only S) x) ∙ f x (sym (has-without-other O₁ S x d) ∙ there)))
-      where
-        outer : (has E x ≡ true) ⊎ (has (only S) x ≡ true) → has E x ≡ true
-        outer (inl k) = k
-        outer (inr k) = absurd (d (has-only-equal S x k))
+hidden O O₁ E S e f x h =
+    let (n, k) = other O₁ S x (sym (ap (λ (z : ℕ). has z x) e) ∙ h) in
+    either E (only S) x (f x k) (λ i. i) (λ i. absurd (n (has-only-equal S x i)))
 
 without-within : (O E S : ℕ) → Within O (E without S) → Within O E
-without-within O E S f x h = and-cases (has E x) (not (has (only S) x)) (sym (has-minus E (only S) x) ∙ f x h) .0
+without-within O E S f x h = other E S x (f x h) .1
+
+wider-left : (O a b : ℕ) → Within O a → Within O (a union b)
+wider-left O a b f x h = in-left a b x (f x h)
+
+wider-right : (O a b : ℕ) → Within O b → Within O (a union b)
+wider-right O a b f x h = in-right a b x (f x h)
+
+-- of two parts
+parts : (O O₁ O₂ a b : ℕ) → O ≡ O₁ union O₂ → Within O₁ a → Within O₂ b → Within O (a union b)
+parts O O₁ O₂ a b e f g = both O O₁ O₂ (a union b) e (wider-left O₁ a b f) (wider-right O₂ a b g)
+
+-- a signal that is not the declared one
+kept : (O O₁ a S : ℕ) → O ≡ O₁ without S → Within O₁ a → Within O (a without S)
+kept O O₁ a S e f x h =
+    let (n, k) = other O₁ S x (sym (ap (λ (z : ℕ). has z x) e) ∙ h) in has-without-other a S x n ∙ f x k
+
+absent : (O E a S : ℕ) → Within O (E without S) → Within O a → Within O (a without S)
+absent O E a S g f x h = let (n, k) = other E S x (g x h) in has-without-other a S x n ∙ f x h
+
+-- ---- what is assumed
 
 pub emitted-assumed : {p : Statement} {x : State} {E O k L : ℕ} → Derives p x E O k L → Within O E
 emitted-assumed {E = E} {O = O} (rule.nothing a b c) = none O E a
@@ -70,3 +81,30 @@ emitted-fits w {p} {x} {E} {O} h d = fits w O (λ y k. go y (emitted-assumed d y
     go : (y : ℕ) → has E y ≡ true → Dec (y < w) → y < w
     go y k (yes l) = l
     go y k (no l) = clash k (past-width w E y h (omega arith))
+
+-- ---- what an emit outside a declaration names
+
+pub emitted-free : (p : Statement) {x : State} {E O k L : ℕ} → Derives p x E O k L → Within O (emittedFree p)
+unfolding emittedFree
+emitted-free nothing {O = O} (rule.nothing a b c) = none O 0 a
+emitted-free (pause l) {O = O} (rule.pause a b c) = none O 0 a
+emitted-free (pause l) {O = O} (rule.resume h a b c) = none O 0 a
+emitted-free (gotopause l) {O = O} (rule.goto a b c) = none O 0 a
+emitted-free (emit S) {O = O} (rule.emit h a b c) = λ x m. sym (ap (λ (z : ℕ). has z x) a) ∙ m
+emitted-free (exit d) {O = O} (rule.exit a b c) = none O 0 a
+emitted-free (signal S p) {O = O} (rule.signal+ O₁ r h e) = kept O O₁ (emittedFree p) S e (emitted-free p r)
+emitted-free (signal S p) {E = E} {O = O} (rule.signal- r) = absent O E (emittedFree p) S (emitted-assumed r) (emitted-free p r)
+emitted-free (present S p q) {O = O} (rule.present h r) = wider-left O (emittedFree p) (emittedFree q) (emitted-free p r)
+emitted-free (present S p q) {O = O} (rule.absent h r) = wider-right O (emittedFree p) (emittedFree q) (emitted-free q r)
+emitted-free (present S p q) {O = O} (rule.present-left r) = wider-left O (emittedFree p) (emittedFree q) (emitted-free p r)
+emitted-free (present S p q) {O = O} (rule.present-right r) = wider-right O (emittedFree p) (emittedFree q) (emitted-free q r)
+emitted-free (sequence p q) {O = O} (rule.seq O₁ O₂ a b e) = parts O O₁ O₂ (emittedFree p) (emittedFree q) e (emitted-free p a) (emitted-free q b)
+emitted-free (sequence p q) {O = O} (rule.seq-left r h) = wider-left O (emittedFree p) (emittedFree q) (emitted-free p r)
+emitted-free (sequence p q) {O = O} (rule.seq-right r) = wider-right O (emittedFree p) (emittedFree q) (emitted-free q r)
+emitted-free (parallel p q) {O = O} (rule.par O₁ k₁ L₁ O₂ k₂ L₂ a b e f g) =
+    parts O O₁ O₂ (emittedFree p) (emittedFree q) e (emitted-free p a) (emitted-free q b)
+emitted-free (parallel p q) {O = O} (rule.par-left r h) = wider-left O (emittedFree p) (emittedFree q) (emitted-free p r)
+emitted-free (parallel p q) {O = O} (rule.par-right r h) = wider-right O (emittedFree p) (emittedFree q) (emitted-free q r)
+emitted-free (loop p) (rule.no-loop r h) = emitted-free p r
+emitted-free (loop p) {O = O} (rule.loop O₁ O₂ a b h e) = both O O₁ O₂ (emittedFree p) e (emitted-free p a) (emitted-free p b)
+emitted-free (try p) (rule.try k₁ r e) = emitted-free p r

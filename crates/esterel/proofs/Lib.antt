@@ -8,17 +8,16 @@ pub mod Levels
 pub mod Unnamed
 pub mod Trimming
 pub mod Validity
-pub mod Bounds
 pub mod Runs
 pub mod Published
 pub mod Counterexamples
 pub mod Order
-pub mod Emitting
 pub mod Listing
 pub mod Needed
 pub mod Ignored
-pub mod Indistinguishable
 pub mod Conditions
+pub mod Emitting
+pub mod Bounds
 pub mod Slots
 pub mod Proper
 pub mod RowOrder
@@ -26,7 +25,6 @@ pub mod Rows
 pub mod Unknown
 pub mod Ends
 pub mod Quiet
-pub mod RowsEmitting
 pub mod Absent
 pub mod UnnamedLists
 pub mod Told
@@ -34,3 +32,8 @@ pub mod CappedArms
 pub mod CappedRows
 pub mod AbsentRows
 pub mod RowExamples
+pub mod Stepping
+pub mod Limits
+pub mod Indistinguishable
+pub mod Looking
+pub mod StepExamples

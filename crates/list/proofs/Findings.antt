@@ -39,9 +39,9 @@ mark-resumed zero X h = absurd (h refl)
 mark-resumed (suc mark) X h = refl
 
 -- the rows of a statement that is no deeper than 60
-pub made-in : {a b : List ℕ} {n : ℕ} (M : ℕ) (p : Statement) (E : ℕ) {x y : State} → x ≡ y → depth p ≤ 60
-    → Made a b 0 (0 + roomFor p) (cappedRows M p x E 0) n → Made a b 0 7810 (cappedRows M p y E 0) n
-made-in M p E e h m = made-as (made-need 7810 m (omega arith)) (ap (λ (z : State). cappedRows M p z E 0) e)
+pub made-in : {a b : List ℕ} {n : ℕ} (M : ℕ) (p : Statement) (E U : ℕ) {x y : State} → x ≡ y → depth p ≤ 60
+    → Made a b 0 (0 + roomFor p) (cappedRows M p x E U) n → Made a b 0 7810 (cappedRows M p y E U) n
+made-in M p E U e h m = made-as (made-need 7810 m (omega arith)) (ap (λ (z : State). cappedRows M p z E U) e)
 
 -- ---- copying
 -- the first i words are copied

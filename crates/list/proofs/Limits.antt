@@ -12,7 +12,7 @@ use lib.ListN.{length, take, drop, getD}
 use lib.Seq.{take-at}
 use borrow.Author.Tests.{lt-ltb, le-ltb}
 use Rattle.sets.proofs.Booleans.{eqb-differ}
-use Rattle.esterel.specs.Statement.{Statement}
+use Rattle.esterel.specs.Statement.{Statement, Valid}
 use Rattle.esterel.specs.Reactions.{State, Reaction}
 use Rattle.esterel.specs.Listing.{listing, crowded, nesting}
 use Rattle.esterel.specs.inner.Rows.{reactions}
@@ -31,13 +31,12 @@ use Rattle.table.proofs.Accepted.{Holds, accepted}
 use Rattle.table.proofs.Loading.{load-refuses, load-holds, load-statement, load-size, load-loaded}
 use Rattle.area.specs.inner.Area.{rows, Made}
 use Rattle.lister.specs.inner.Notes.{nestOf, ReadWhole, Resumable}
-use Rattle.lister.specs.inner.Slots.{Slotted}
 use Rattle.list.specs.declared.Answer.{Answer}
 use Rattle.list.specs.declared.Answer.the-variants as answer
 use Rattle.list.specs.declared.Prepared.the-variants as prepared
 use Rattle.list.specs.Answers.{Listing, refused, listed, listFor, listingOutcome, answerOutcome}
 use Rattle.list.specs.inner.Notes.{Distinct, AllNoted, Passable, Counted}
-use Rattle.list.specs.inner.Preparing.{listAt, limited, Listable, NodeRoom, Prepares}
+use Rattle.list.specs.inner.Preparing.{listAt, limited, NodeRoom, Unready, malformed, nested, Ready, Prepares}
 use Rattle.list.specs.inner.Finding.{reactionsHeld, answerFor, Finds}
 use Rattle.list.proofs.Pauses.{distinct-nodes}
 use Rattle.list.proofs.Passing.{right-pauses, root-nest}
@@ -161,70 +160,56 @@ module _ {n : ℕ} {xs : List ℕ} (s : Counted xs n) where
           right-labels = right-pauses passable c;
         }
 
-    noted-listable : (M : ℕ) → Slotted M 0 → Listable xs ends notes unions M
-    noted-listable M h = record { noted = noted-resumable; slots = h }
-
     noted-nest : (nest : ℕ) → nest ≡ nestOf (getD notes 0 0) → nest ≡ min 13 (nesting (statementOf xs))
     noted-nest nest e = e ∙ root-nest passable (c .noted) root-whole
 
--- ---- refusal 14
-module _ (p : Statement) (nest : ℕ) (e : nest ≡ min 13 (nesting p)) where
-  for-deep : 12 < nest → (x : State) (E : ℕ) → listFor p x E ≡ refused 14
-  unfolding listFor
-  for-deep h x E = ap (λ (z : Bool). cond z (refused 14) (cond (crowded p x E) (refused 15) (listed (listing p x E)))) (lt-ltb 12 (nesting p) (omega arith))
+-- ---- what list gives for a table that was refused, and for one that is ready
+pub unready-refused : {T : Table} {w : ℕ} → Unready T w → (x : State) (E : ℕ) → listAt T x E ≡ refused w
+unfolding listAt listFor
+unready-refused malformed x E = refl
+unready-refused (nested {n} {p} h) x E = ap (λ (z : Bool). cond z (refused 14) (cond (crowded p x E) (refused 15) (listed (listing p x E)))) h
 
-  for-limited : nest ≤ 12 → (x : State) (E : ℕ) → listFor p x E ≡ limited p x E
-  unfolding listFor limited
-  for-limited h x E = ap (λ (z : Bool). cond z (refused 14) (cond (crowded p x E) (refused 15) (listed (listing p x E)))) (le-ltb 12 (nesting p) (omega arith))
+pub ready-limited : {T : Table} {xs ends notes unions : List ℕ} → Ready T xs ends notes unions → (x : State) (E : ℕ) → listAt T x E ≡ limited (statementOf xs) x E
+unfolding listAt listFor limited
+ready-limited {T} {xs} r x E = ap (λ (T : Table). listAt T x E) (r .holds) ∙ ap (λ (z : Bool). cond z (refused 14) (limited (statementOf xs) x E)) (r .shallow)
 
 -- ---- a table, by the answer of check
 module _ {T : Table} {xs ends notes unions : List ℕ} where
-  prepares-refused : (w : ℕ) → ((x : State) (E : ℕ) → listAt T x E ≡ refused w) → Prepares T (prepared.Refused w) xs ends notes unions
+  prepares-refused : (w : ℕ) → Unready T w → Prepares T (prepared.Refused w) xs ends notes unions
   prepares-refused w f = record {
-    refuses = λ u e x E. f x E ∙ ap refused (same u e);
-    accepts = λ M e. absurd (other M e);
+    refuses = λ u e. subst (Unready T) (same u e) f;
+    accepts = λ e. absurd (let z : _≡_ {A = ℕ} 0 1 = cc in omega arith);
   }
     where
       same : (u : ℕ) → prepared.Refused w ≡ prepared.Refused u → w ≡ u
       same u e = cc
 
-      other : (M : ℕ) → prepared.Refused w ≡ prepared.Accepted M → ⊥
-      other M e = let z : _≡_ {A = ℕ} 0 1 = cc in omega arith
-
-  prepares-accepted : (M : ℕ) → Listable xs ends notes unions M → ((x : State) (E : ℕ) → listAt T x E ≡ limited (statementOf xs) x E) → Prepares T (prepared.Accepted M) xs ends notes unions
-  prepares-accepted M l f = record {
-    refuses = λ w e. absurd (other w e);
-    accepts = λ K e. (subst (Listable xs ends notes unions) (same K e) l, f);
+  prepares-accepted : Ready T xs ends notes unions → Prepares T prepared.Accepted xs ends notes unions
+  prepares-accepted r = record {
+    refuses = λ w e. absurd (let z : _≡_ {A = ℕ} 0 1 = cc in omega arith);
+    accepts = λ e. r;
   }
-    where
-      same : (K : ℕ) → prepared.Accepted M ≡ prepared.Accepted K → M ≡ K
-      same K e = cc
-
-      other : (w : ℕ) → prepared.Accepted M ≡ prepared.Refused w → ⊥
-      other w e = let z : _≡_ {A = ℕ} 0 1 = cc in omega arith
 
 module _ (t old new : List ℕ) (c : Checked) (h : (checkedOutcome c ≡ checkOf t) × (new ≡ loadedOf t old)) where
   pub prepared-checked : (w why : ℕ) {xs ends notes unions : List ℕ} → c ≡ checked.Refused w → why ≡ numberOf (checkedOutcome c)
       → Prepares (tableOf t) (prepared.Refused why) xs ends notes unions
-  unfolding listAt
-  prepared-checked w why e f = prepares-refused why (λ x E. ap (λ (T : Table). listAt T x E) (load-refuses t old new c h w why e f))
+  prepared-checked w why e f = prepares-refused why (subst (λ (T : Table). Unready T why) (sym (load-refuses t old new c h w why e f)) malformed)
 
   module _ (n : ℕ) (e : c ≡ checked.Accepted n) where
     -- the first nodes are those of a valid statement
+    table-holds : Holds t n (load-holds t old new c h n e .0)
+    table-holds = accepted t n (load-holds t old new c h n e .0) (load-holds t old new c h n e .1)
+
     loaded-distinct : Distinct (take n new)
     unfolding loadedOf loadedAfter
     loaded-distinct =
         let p = load-holds t old new c h n e .0 in
-        let k : Holds t n p = accepted t n p (load-holds t old new c h n e .1) in
-        let f : new ≡ nodesOf t n ++ drop n old = h .1 ∙ rw (k .counted) in
-        let g : take n new ≡ nodes p = ap (take n) f ∙ take-at (nodesOf t n) (drop n old) n (length-nodesOf t n) ∙ k .nodes-are in
-        subst Distinct (sym g) (distinct-nodes p (k .valid))
+        let f : new ≡ nodesOf t n ++ drop n old = h .1 ∙ rw (table-holds .counted) in
+        let g : take n new ≡ nodes p = ap (take n) f ∙ take-at (nodesOf t n) (drop n old) n (length-nodesOf t n) ∙ table-holds .nodes-are in
+        subst Distinct (sym g) (distinct-nodes p (table-holds .valid))
 
-    at-loaded : (x : State) (E : ℕ) → listAt (tableOf t) x E ≡ listFor (statementOf new) x E
-    unfolding listAt
-    at-loaded x E =
-        ap (λ (T : Table). listAt T x E) (load-holds t old new c h n e .1)
-        ∙ sym (ap (λ (p : Statement). listFor p x E) (load-statement t old new c h n e))
+    loaded-holds : tableOf t ≡ table.holds n (statementOf new)
+    loaded-holds = load-holds t old new c h n e .1 ∙ ap (table.holds n) (sym (load-statement t old new c h n e))
 
     module _ (r : NodeRoom old) where
       loaded-counted : Counted new n
@@ -241,7 +226,15 @@ module _ (t old new : List ℕ) (c : Checked) (h : (checkedOutcome c ≡ checkOf
         never-unknown k = omega (arith, nest-is, k)
 
         pub prepared-deep : 12 < nest → Prepares (tableOf t) (prepared.Refused 14) new ends notes unions
-        prepared-deep k = prepares-refused 14 (λ x E. at-loaded x E ∙ for-deep (statementOf new) nest nest-is k x E)
+        prepared-deep k =
+            let deep : Unready (table.holds n (statementOf new)) 14 = nested (lt-ltb 12 (nesting (statementOf new)) (omega (arith, nest-is))) in
+            prepares-refused 14 (subst (λ (T : Table). Unready T 14) (sym loaded-holds) deep)
 
-        pub prepared-listable : nest ≤ 12 → (M : ℕ) → Slotted M 0 → Prepares (tableOf t) (prepared.Accepted M) new ends notes unions
-        prepared-listable k M q = prepares-accepted M (noted-listable loaded-counted d M q) (λ x E. at-loaded x E ∙ for-limited (statementOf new) nest nest-is k x E)
+        pub prepared-ready : nest ≤ 12 → Prepares (tableOf t) prepared.Accepted new ends notes unions
+        prepared-ready k = prepares-accepted (record {
+          count = n;
+          holds = loaded-holds;
+          shallow = le-ltb 12 (nesting (statementOf new)) (omega (arith, nest-is));
+          valid = subst (Valid 0) (sym (load-statement t old new c h n e)) (table-holds .valid);
+          noted = noted-resumable loaded-counted d;
+        })

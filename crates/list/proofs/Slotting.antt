@@ -1,66 +1,68 @@
 -- The signals that may be unknown, taken one by one: each takes one slot at most.
-use mathlib.Core.Path.{_≡_, refl, sym, ap, ap₂, _∙_}
+use mathlib.Core.Path.{_≡_, sym, ap, _∙_, subst}
 use mathlib.Core.Logic.{_⊎_, inl, inr}
-use mathlib.Core.Bool.{Bool, true, false, cond, _||_}
+use mathlib.Core.Bool.{Bool, true, false, cond}
+use mathlib.Core.List.{List}
 use Prim.Native.Nat.{ℕ, zero, suc, _+_, _≤_, _<_}
 use native.Mathlib.Omega.{arith}
-use native.Mathlib.Decide.{ℕ-discrete}
-use Rattle.sets.specs.Set.{has, only, _union_, count}
-use Rattle.sets.proofs.Booleans.{or-cases, or-false, clash}
-use Rattle.sets.proofs.Members.{has-empty, has-union, has-only-equal, has-only-other}
+use lib.ListN.{getD}
+use Rattle.sets.specs.Set.{has, only, _union_, Within, count}
+use Rattle.sets.proofs.Booleans.{not-true, or-cases, clash}
+use Rattle.sets.proofs.Counts.{count-empty, count-only, count-union}
+use Rattle.sets.proofs.Members.{has-empty, has-union, has-only-equal}
 use Rattle.esterel.specs.inner.Conditions.{slotOf}
+use Rattle.esterel.proofs.Conditions.{in-left}
+use Rattle.lister.specs.inner.Notes.{EndsFrom, Startable}
 use Rattle.lister.specs.inner.Slots.{Slotted}
 
--- signals were taken, so many at most
-pub record Taken (M used : ℕ) : Type 0 where
+-- where all members are below v, counting further finds no more
+pub count-narrow : (m v d : ℕ) → ((x : ℕ) → has m x ≡ true → x < v) → count (d + v) m ≡ count v m
+unfolding count
+count-narrow m v zero h = let e : zero + v ≡ v = omega arith in ap (λ (w : ℕ). count w m) e
+count-narrow m v (suc d) h =
+    let e : suc d + v ≡ suc (d + v) = omega arith in
+    let f : has m (d + v) ≡ false = not-true (has m (d + v)) (λ k. let l = h (d + v) k in omega arith) in
+    let g : _≡_ {A = ℕ} (cond (has m (d + v)) 1 0) 0 = ap (λ (z : Bool). cond {A = ℕ} z 1 0) f in
+    let i : count (d + v) m + cond (has m (d + v)) 1 0 ≡ count v m = let k = count-narrow m v d h in omega arith in
+    ap (λ (w : ℕ). count w m) e ∙ i
+
+-- beside the unknown signals U others were taken, so many at most in all
+pub record Taken (U M used : ℕ) : Type 0 where
   pub fits : slotOf M 32 ≤ used
   pub narrow : (S : ℕ) → has M S ≡ true → S < 32
+  pub within : Within U M
 
-none-slotted : (n : ℕ) → slotOf 0 n ≡ 0
-unfolding count
-none-slotted zero = refl
-none-slotted (suc n) = ap₂ _+_ (none-slotted n) (ap (λ (z : Bool). cond z 1 0) (has-empty n))
+pub taken-none : {U used : ℕ} → Slotted U U → used ≡ count 64 U → (used ≤ 12) × Taken U U used
+taken-none {U} s e =
+    let f = count-narrow U 32 32 (s .narrow) in
+    let g = s .few in
+    (omega arith, record { fits = omega arith; narrow = s .narrow; within = s .within })
 
-pub taken-none : Taken 0 0
-taken-none = record { fits = let e = none-slotted 32 in omega arith; narrow = λ S h. clash h (has-empty S) }
+narrow-more : (M s : ℕ) → ((S : ℕ) → has M S ≡ true → S < 32) → s < 32 → (S : ℕ) → has (M union only s) S ≡ true → S < 32
+narrow-more M s f h S e = go (or-cases (has M S) (has (only s) S) (sym (has-union M (only s) S) ∙ e))
+  where
+    go : (has M S ≡ true) ⊎ (has (only s) S ≡ true) → S < 32
+    go (inl g) = f S g
+    go (inr g) = let q = has-only-equal s S g in omega arith
 
-module _ (M s : ℕ) where
-  others : (n : ℕ) → (s ≡ n → ⊥) → has (M union only s) n ≡ has M n
-  others n h = has-union M (only s) n ∙ ap (λ (z : Bool). has M n || z) (has-only-other s n h) ∙ or-false (has M n)
+pub taken-more : {U M N used : ℕ} (s : ℕ) → Taken U M used → s < 32 → N ≡ M union only s → Taken U N (used + 1)
+taken-more {U} {M} {N} {used} s t h e = subst (λ (L : ℕ). Taken U L (used + 1)) (sym e) more
+  where
+    more : Taken U (M union only s) (used + 1)
+    more = record {
+      fits = let e = count-union 32 M (only s) in let g = count-only 32 s in let f = t .fits in omega arith;
+      narrow = narrow-more M s (t .narrow) h;
+      within = λ S e. in-left M (only s) S (t .within S e);
+    }
 
-  slot-same : (n : ℕ) → n ≤ s → slotOf (M union only s) n ≡ slotOf M n
-  unfolding count
-  slot-same zero h = refl
-  slot-same (suc n) h = ap₂ _+_ (slot-same n (omega arith)) (ap (λ (z : Bool). cond z 1 0) (others n (λ e. omega arith)))
+pub taken-slotted : {U M used : ℕ} → Taken U M used → used ≤ 12 → Slotted M U
+taken-slotted t h = record { few = let f = t .fits in omega arith; narrow = t .narrow; within = t .within }
 
-  at-most-one : (b : Bool) → cond b 1 0 ≤ 1
-  at-most-one true = omega arith
-  at-most-one false = omega arith
+-- no signal is unknown
+pub none-slotted : Slotted 0 0
+none-slotted = record { few = let e = count-empty 32 in omega arith; narrow = λ S h. clash h (has-empty S); within = λ S h. h }
 
-  slot-once : (n : ℕ) → slotOf (M union only s) n ≤ slotOf M n + 1
-  unfolding count
-  slot-once zero = omega arith
-  slot-once (suc n) = go (slot-once n) (ℕ-discrete s n)
-    where
-      go : slotOf (M union only s) n ≤ slotOf M n + 1 → Dec (s ≡ n)
-          → slotOf (M union only s) n + cond (has (M union only s) n) 1 0 ≤ slotOf M n + cond (has M n) 1 0 + 1
-      go f (yes e) =
-          let d = slot-same n (omega arith) in
-          let g = at-most-one (has (M union only s) n) in
-          omega arith
-      go f (no h) =
-          let g : _≡_ {A = ℕ} (cond (has (M union only s) n) 1 0) (cond (has M n) 1 0) = ap (λ (z : Bool). cond z 1 0) (others n h) in
-          omega arith
-
-  narrow-more : ((S : ℕ) → has M S ≡ true → S < 32) → s < 32 → (S : ℕ) → has (M union only s) S ≡ true → S < 32
-  narrow-more f h S e = go (or-cases (has M S) (has (only s) S) (sym (has-union M (only s) S) ∙ e))
-    where
-      go : (has M S ≡ true) ⊎ (has (only s) S ≡ true) → S < 32
-      go (inl g) = f S g
-      go (inr g) = let q = has-only-equal s S g in omega arith
-
-pub taken-more : {M used : ℕ} (s : ℕ) → Taken M used → s < 32 → Taken (M union only s) (used + 1)
-taken-more {M} s t h = record { fits = let e = slot-once M s 32 in let f = t .fits in omega arith; narrow = narrow-more M s (t .narrow) h }
-
-pub taken-slotted : {M used : ℕ} → Taken M used → used ≤ 12 → Slotted M 0
-taken-slotted t h = record { few = let f = t .fits in omega arith; narrow = t .narrow; within = λ S e. clash e (has-empty S) }
+-- the root ends within the room for nodes
+pub root-end : {xs ends : List ℕ} → Startable xs ends 0 → getD ends 0 0 ≤ 1024
+unfolding EndsFrom
+root-end s = let e = s .right 0 (omega arith) (s .whole) in let f = s .whole .within in let g = s .few in omega arith

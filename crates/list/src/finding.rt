@@ -4,7 +4,7 @@ use crate::Answer;
 use crate::CROWDED;
 use crate::Prepared;
 use crate::State;
-use crate::preparing::prepare;
+use crate::preparing;
 use lister::COUNTS;
 use lister::resume;
 use lister::start;
@@ -22,22 +22,24 @@ ghost use Rattle.list.specs.inner.Finding.{Copied, answerFor, Finds};
 // The words of an area that is never too small.
 const LARGE: usize = 7810;
 
-// The rows of a prepared table, as the lister leaves them; with no signal unknown they are the reactions.
-fn rows_in(
+// The rows of a prepared table, as the lister leaves them, or that the area is too small for them; with no signal unknown they are
+// the reactions.
+pub fn rows_in(
     nodes: &[u16; MOST_NODES],
     ends: &[u16; MOST_NODES],
     notes: &[u16; MOST_NODES],
     unions: &[u64; COUNTS],
     slotted: u64,
     assumed: u64,
+    unknown: u64,
     state: State,
     area: &mut [u64],
 ) -> usize
-    requires { ⌜ Listable (now nodes) (now ends) (now notes) (now unions) slotted ⌝ }
-    ensures { λ r. ⌜ Made (now (area .entry)) (now (area .exit)) 0 7810 (cappedRows slotted (statementOf (now (nodes .entry))) (stateIn state) assumed 0) r ⌝ }
+    requires { ⌜ Listable (now nodes) (now ends) (now notes) (now unions) slotted unknown ⌝ }
+    ensures { λ r. ⌜ Made (now (area .entry)) (now (area .exit)) 0 7810 (cappedRows slotted (statementOf (now (nodes .entry))) (stateIn state) assumed unknown) r ⌝ }
 {
     match state {
-        State::Start => start(nodes, ends, 0, assumed, 0, slotted, area, 0),
+        State::Start => start(nodes, ends, 0, assumed, unknown, slotted, area, 0),
         State::Resumed(labels) => resume(
             nodes,
             ends,
@@ -45,7 +47,7 @@ fn rows_in(
             unions,
             0,
             assumed,
-            0,
+            unknown,
             slotted,
             labels,
             area,
@@ -78,30 +80,42 @@ fn rows_through(
     unions: &[u64; COUNTS],
     slotted: u64,
     assumed: u64,
+    unknown: u64,
     state: State,
     area: &mut [u64],
     large: &mut [u64],
 ) -> usize
-    requires { ⌜ (128 ≤ length (now area)) × (7810 ≤ length (now large)) × Listable (now nodes) (now ends) (now notes) (now unions) slotted ⌝ }
-    ensures { λ r. ⌜ Made (now (area .entry)) (now (area .exit)) 0 0 (cappedRows slotted (statementOf (now (nodes .entry))) (stateIn state) assumed 0) r ⌝ }
+    requires { ⌜ (128 ≤ length (now area)) × (7810 ≤ length (now large)) × Listable (now nodes) (now ends) (now notes) (now unions) slotted unknown ⌝ }
+    ensures { λ r. ⌜ Made (now (area .entry)) (now (area .exit)) 0 0 (cappedRows slotted (statementOf (now (nodes .entry))) (stateIn state) assumed unknown) r ⌝ }
 {
-    let n = rows_in(nodes, ends, notes, unions, slotted, assumed, state, large);
+    let n = rows_in(
+        nodes,
+        ends,
+        notes,
+        unions,
+        slotted,
+        assumed,
+        unknown,
+        state,
+        large,
+    );
     copy(large, n, area);
     n
 }
 
-fn rows_large(
+pub fn rows_large(
     nodes: &[u16; MOST_NODES],
     ends: &[u16; MOST_NODES],
     notes: &[u16; MOST_NODES],
     unions: &[u64; COUNTS],
     slotted: u64,
     assumed: u64,
+    unknown: u64,
     state: State,
     area: &mut [u64],
 ) -> usize
-    requires { ⌜ (128 ≤ length (now area)) × Listable (now nodes) (now ends) (now notes) (now unions) slotted ⌝ }
-    ensures { λ r. ⌜ Made (now (area .entry)) (now (area .exit)) 0 0 (cappedRows slotted (statementOf (now (nodes .entry))) (stateIn state) assumed 0) r ⌝ }
+    requires { ⌜ (128 ≤ length (now area)) × Listable (now nodes) (now ends) (now notes) (now unions) slotted unknown ⌝ }
+    ensures { λ r. ⌜ Made (now (area .entry)) (now (area .exit)) 0 0 (cappedRows slotted (statementOf (now (nodes .entry))) (stateIn state) assumed unknown) r ⌝ }
 {
     let mut large = [0u64; LARGE];
     rows_through(
@@ -111,6 +125,7 @@ fn rows_large(
         unions,
         slotted,
         assumed,
+        unknown,
         state,
         area,
         &mut large,
@@ -141,15 +156,15 @@ pub fn reactions(
     state: State,
     area: &mut [u64],
 ) -> Answer
-    requires { ⌜ (128 ≤ length (now area)) × Listable (now nodes) (now ends) (now notes) (now unions) slotted ⌝ }
+    requires { ⌜ (128 ≤ length (now area)) × Listable (now nodes) (now ends) (now notes) (now unions) slotted 0 ⌝ }
     ensures { λ r. ⌜ Finds (limited (statementOf (now (nodes .entry))) (stateIn state) assumed) r (now (area .entry)) (now (area .exit)) ⌝ }
 {
     let present = assumed as u64;
-    let n = rows_in(nodes, ends, notes, unions, slotted, present, state, area);
+    let n = rows_in(nodes, ends, notes, unions, slotted, present, 0, state, area);
     if n <= area::OVER {
         return answer_for(n);
     }
-    answer_for(rows_large(nodes, ends, notes, unions, slotted, present, state, area))
+    answer_for(rows_large(nodes, ends, notes, unions, slotted, present, 0, state, area))
 }
 
 // The reactions of a state of a table, left in front of an area, with room lent for what is prepared.
@@ -166,18 +181,12 @@ pub fn find(
     requires { ⌜ (128 ≤ length (now area)) × Rooms (now nodes) (now ends) (now notes) (now unions) ⌝ }
     ensures { λ r. ⌜ Finds (listAt (tableOf (now (table .entry))) (stateIn state) assumed) r (now (area .entry)) (now (area .exit)) ⌝ }
 {
-    let prepared = prepare(table, nodes, ends, notes, unions);
+    let prepared = preparing::prepare(table, nodes, ends, notes, unions);
     match prepared {
         Prepared::Refused(why) => Answer::Refused(why),
-        Prepared::Accepted(slotted) => reactions(
-            nodes,
-            ends,
-            notes,
-            unions,
-            slotted,
-            assumed,
-            state,
-            area,
-        ),
+        Prepared::Accepted => {
+            let slotted = preparing::slotted(nodes, ends, notes, 0);
+            reactions(nodes, ends, notes, unions, slotted, assumed, state, area)
+        }
     }
 }

@@ -10,8 +10,11 @@ mod preparing;
 mod writing;
 
 pub use finding::reactions;
+pub use finding::rows_in;
+pub use finding::rows_large;
 use lister::COUNTS;
 pub use preparing::prepare;
+pub use preparing::slotted;
 use table::MOST_NODES;
 ghost use mathlib.Core.Path.{_≡_};
 ghost use Prim.Native.Nat.{_≤_};
@@ -26,13 +29,13 @@ ghost use Rattle.list.specs.inner.Finding.{ListsIn, ListsBytesIn};
 const TOO_NESTED: u8 = 14;
 
 // "15 some list needed, the table's own included, has over 64 reactions"
-const CROWDED: u8 = 15;
+pub const CROWDED: u8 = 15;
 
 // "16 one of the three result buffers (O, k, L) has fewer places than reactions"
 const TOO_SHORT: u8 = 16;
 
 // The words of the area that is tried first.
-const SMALL: usize = 272;
+pub const SMALL: usize = 272;
 
 // List's answer: the number of the refusal, or how many reactions there are.
 pub enum Answer {
@@ -46,11 +49,10 @@ pub enum State {
     Resumed(u64),
 }
 
-// What was prepared of a table: the number of the refusal, or the signals that may be unknown, where the nodes and what is noted
-// of them stand in lent rooms.
+// What was prepared of a table: the number of the refusal, or the nodes and what is noted of them in lent rooms.
 pub enum Prepared {
     Refused(u8),
-    Accepted(u64),
+    Accepted,
 }
 
 // Document 01's number for an answer of list: the refusal, 0 where the count is given.

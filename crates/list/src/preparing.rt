@@ -1,5 +1,5 @@
-// A table made ready, once, for listing any of its states under any assumed set: its nodes decoded and checked, what the lister
-// asks of each noted, and the signals chosen that may be unknown.
+// A table made ready, once, for listing any of its states under any assumed set: its nodes decoded and checked, and what the lister
+// asks of each noted. And the signals that may be unknown, which are chosen for those that are.
 use crate::Prepared;
 use crate::TOO_NESTED;
 use crate::noting::note_all;
@@ -12,8 +12,9 @@ use table::kind_of;
 use table::operand_of;
 ghost use mathlib.Core.Path.{_≡_};
 ghost use mathlib.Core.Bool.{true};
-ghost use Prim.Native.Nat.{_≤_, _<_};
+ghost use Prim.Native.Nat.{_<_};
 ghost use Rattle.table.specs.Reading.{tableOf, operandOf};
+ghost use Rattle.lister.specs.inner.Notes.{Startable};
 ghost use Rattle.lister.specs.inner.Slots.{Slotted};
 ghost use Rattle.list.specs.inner.Preparing.{Rooms, Prepares};
 
@@ -37,15 +38,23 @@ fn declares(set: u64, node: u16) -> bool
     !sets::contains(set, signal)
 }
 
-// The signals that may be unknown: the last that the first nodes declare. Where one has no slot, every list around it in which
-// a signal is unknown is given up, so those without stand outside.
-fn slotted(nodes: &[u16; MOST_NODES], count: usize) -> u64
-    requires { ⌜ count ≤ 1024 ⌝ }
-    ensures { λ r. ⌜ Slotted r 0 ⌝ }
+// The signals that may be unknown: those that are, and the last that the nodes declare. Where one has no slot, every list around it
+// in which a signal is unknown is given up, so those without stand outside.
+pub fn slotted(
+    nodes: &[u16; MOST_NODES],
+    ends: &[u16; MOST_NODES],
+    notes: &[u16; MOST_NODES],
+    unknown: u64,
+) -> u64
+    requires { ⌜ Startable (now nodes) (now ends) 0 × Slotted unknown unknown ⌝ }
+    ensures { λ r. ⌜ Slotted r unknown ⌝ }
 {
-    let mut set = 0;
-    let mut used = 0;
-    let mut at = count;
+    if nest_of(notes[0]) == 0 {
+        return unknown;
+    }
+    let mut set = unknown;
+    let mut used = sets::count(unknown);
+    let mut at = ends[0] as usize;
     while 0 < at {
         at -= 1;
         let node = nodes[at];
@@ -85,8 +94,5 @@ pub fn prepare(
     if lister::MOST_NESTED < nest {
         return Prepared::Refused(TOO_NESTED);
     }
-    if nest == 0 {
-        return Prepared::Accepted(0);
-    }
-    Prepared::Accepted(slotted(nodes, count))
+    Prepared::Accepted
 }

@@ -10,4 +10,5 @@ pub use noted::nest_of;
 pub use noted::nested_once;
 pub use noted::note_with;
 pub use reacting::resume;
+pub use reacting::slot_of;
 pub use reacting::start;

@@ -67,7 +67,7 @@ fn named(nodes: &[u16; MOST_NODES], ends: &[u16; MOST_NODES], at: usize, signal:
 }
 
 // The slot of a signal: how many members of the set are below it.
-fn slot_of(slotted: u64, signal: u8) -> u8
+pub fn slot_of(slotted: u64, signal: u8) -> u8
     requires { ⌜ signal < 64 ⌝ }
     ensures { λ r. ⌜ r ≡ slotOf slotted signal ⌝ }
 {

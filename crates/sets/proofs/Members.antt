@@ -84,6 +84,20 @@ unfolding _minus_
 has-minus a b x =
     has-xor a (bitAnd a b) x ∙ ap (differs (has a x)) (has-and a b x) ∙ differs-and (has a x) (has b x)
 
+pub has-minus-in : (a b x : ℕ) → has b x ≡ true → has (a minus b) x ≡ false
+has-minus-in a b x h = has-minus a b x ∙ ap (λ z. has a x && not z) h ∙ go (has a x)
+  where
+    go : (z : Bool) → (z && false) ≡ false
+    go true = refl
+    go false = refl
+
+pub has-minus-out : (a b x : ℕ) → has b x ≡ false → has (a minus b) x ≡ has a x
+has-minus-out a b x h = has-minus a b x ∙ ap (λ z. has a x && not z) h ∙ go (has a x)
+  where
+    go : (z : Bool) → (z && true) ≡ z
+    go true = refl
+    go false = refl
+
 -- ---- one element
 half-pow : (x : ℕ) → 2 ^ suc x / 2 ≡ 2 ^ x
 half-pow x = rw pow-suc (mul-div-cancel (2 ^ x) (omega arith))
@@ -107,18 +121,10 @@ pub has-only-other : (x y : ℕ) → x ≢ y → has (only x) y ≡ false
 has-only-other x y h = not-true (has (only x) y) (λ e. h (has-only-equal x y e))
 
 pub has-without-same : (a x : ℕ) → has (a without x) x ≡ false
-has-without-same a x = has-minus a (only x) x ∙ ap (λ b. has a x && not b) (has-only x) ∙ go (has a x)
-  where
-    go : (b : Bool) → (b && false) ≡ false
-    go true = refl
-    go false = refl
+has-without-same a x = has-minus-in a (only x) x (has-only x)
 
 pub has-without-other : (a x y : ℕ) → x ≢ y → has (a without x) y ≡ has a y
-has-without-other a x y h = has-minus a (only x) y ∙ ap (λ b. has a y && not b) (has-only-other x y h) ∙ go (has a y)
-  where
-    go : (b : Bool) → (b && true) ≡ b
-    go true = refl
-    go false = refl
+has-without-other a x y h = has-minus-out a (only x) y (has-only-other x y h)
 
 -- an element past the width is not in a word
 pub only-past : (w x : ℕ) → w ≤ x → only x % 2 ^ w ≡ 0

@@ -24,7 +24,7 @@ returns c =
     let at-start = c .before .before in
     let at-enum-told = at-start .before .before in
     let s = at-enum-told .before .before .before in
-    made-in (s .args .slotted) _ (s .args .assumed) (state-start (s .args .state) (at-enum-told .enum-told .given .1)) (s .pre .noted .ready .whole .shallow) (at-start .start .ensures)
+    made-in (s .args .slotted) _ (s .args .assumed) (s .args .unknown) (state-start (s .args .state) (at-enum-told .enum-told .given .1)) (s .pre .noted .ready .whole .shallow) (at-start .start .ensures)
 
 same-length-2 : tie.Need-same-length-2
 same-length-2 c = search needs
@@ -34,7 +34,7 @@ returns-2 c =
     let at-resume = c .before .before in
     let at-state = at-resume .before .before .before in
     let s = at-state .before .before .before in
-    made-in (s .args .slotted) _ (s .args .assumed) (state-resumed (s .args .state) _ (at-state .state .given .1)) (s .pre .noted .ready .whole .shallow) (at-resume .resume .ensures)
+    made-in (s .args .slotted) _ (s .args .assumed) (s .args .unknown) (state-resumed (s .args .state) _ (at-state .state .given .1)) (s .pre .noted .ready .whole .shallow) (at-resume .resume .ensures)
 
 pub rows-in-spec : {M : Type 1} → statement M
 rows-in-spec =

@@ -1,7 +1,5 @@
--- By the answer of check, the nesting of the root, and the signals that were chosen.
-use native.Mathlib.Omega.{arith}
-use Rattle.list.proofs.Limits.{prepared-checked, loaded-passable, never-unknown, prepared-deep, prepared-listable}
-use Rattle.list.proofs.Slotting.{taken-none, taken-slotted}
+-- By the answer of check and the nesting of the root.
+use Rattle.list.proofs.Limits.{prepared-checked, loaded-passable, never-unknown, prepared-deep, prepared-ready}
 use borrow.Author.Needs.{needs}
 use Rattle.list.proofs.preparing.prepare.Statement.{statement}
 use Rattle.list.proofs.preparing.prepare.Tie as tie
@@ -61,34 +59,12 @@ returns-3 c =
 
 returns-4 : tie.Need-returns-4
 returns-4 c =
-    let at-if2 = c .before in
-    let at-nest-of = at-if2 .before .before in
+    let at-nest-of = c .before .before in
     let at-note-all = at-nest-of .before .before in
     let at-checked = at-note-all .before .before .before .before .before .before in
     let at-load = at-checked .before .before in
     let s = at-load .before .before .before in
-    prepared-listable (s .args .table .now) (s .args .nodes .now) _ (at-load .load .result) (at-load .load .ensures) _ (at-checked .checked .given .1) (s .pre .nodes) (at-note-all .note-all .ensures) _ (at-nest-of .nest-of .ensures)
-    (at-if2 .if2 .left) 0 (taken-slotted taken-none (omega arith))
-
-slotted-requires : tie.Need-slotted-requires
-slotted-requires c κs =
-    let at-nest-of = c .before .before .before .before in
-    let at-note-all = at-nest-of .before .before in
-    let at-checked = at-note-all .before .before .before .before .before .before in
-    let at-load = at-checked .before .before in
-    let s = at-load .before .before .before in
-    loaded-passable (s .args .table .now) (s .args .nodes .now) _ (at-load .load .result) (at-load .load .ensures) _ (at-checked .checked .given .1) (s .pre .nodes) .few
-
-returns-5 : tie.Need-returns-5
-returns-5 c =
-    let at-if2 = c .before .before .before in
-    let at-nest-of = at-if2 .before .before in
-    let at-note-all = at-nest-of .before .before in
-    let at-checked = at-note-all .before .before .before .before .before .before in
-    let at-load = at-checked .before .before in
-    let s = at-load .before .before .before in
-    prepared-listable (s .args .table .now) (s .args .nodes .now) _ (at-load .load .result) (at-load .load .ensures) _ (at-checked .checked .given .1) (s .pre .nodes) (at-note-all .note-all .ensures) _ (at-nest-of .nest-of .ensures)
-    (at-if2 .if2 .left) _ (c .slotted .ensures)
+    prepared-ready (s .args .table .now) (s .args .nodes .now) _ (at-load .load .result) (at-load .load .ensures) _ (at-checked .checked .given .1) (s .pre .nodes) (at-note-all .note-all .ensures) _ (at-nest-of .nest-of .ensures) (c .if2 .left)
 
 pub prepare-spec : {M : Type 1} → statement M
 prepare-spec =
@@ -105,6 +81,4 @@ prepare-spec =
     nest-of-requires
     returns-2
     returns-3
-    returns-4
-    slotted-requires
-    returns-5)
+    returns-4)
