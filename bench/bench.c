@@ -1,10 +1,10 @@
-/* Calls the four operations on tables and prints their results for a person to read.
+/* Calls the five operations on tables and prints their results for a person to read.
  *
  *   bench                          the tables that it ships
- *   bench [-e N,..] [-l N,..] FILE...
- *                                  tables in files; -e the signals assumed (none without it),
- *                                  -l the labels to resume from (without it, the start and the
- *                                  states that follow)
+ *   bench [-e N,..] [-i N,..] [-l N,..] FILE...
+ *                                  tables in files; -e the signals assumed by list and -i those
+ *                                  provided to step (none without them), -l the labels to resume
+ *                                  from (without it, the start and the states that follow)
  *
  * The status is 0 where nothing was refused, 1 where something was, 2 for bad arguments and files
  * that cannot be read.
@@ -26,26 +26,34 @@ struct table {
     uint8_t bytes[MOST_BYTES + 1];
 };
 
-/* Texts of these stand in samples/. Each is listed under these signals unless -e gives others. */
+/* The signals that list assumes, and those that are provided to step. */
+struct signals {
+    uint32_t assumed, provided;
+};
+
+/* Texts of these stand in samples/. Each is shown with these signals unless -e or -i gives others. */
 static const struct {
-    uint32_t assumed;
+    struct signals signals;
     struct table table;
 } shipped[] = {
-    {1 << 0 | 1 << 2 | 1 << 4,
+    {{1 << 0 | 1 << 2 | 1 << 4, 1 << 0},
      {"lamp", 26, {
        0x10, 0x13, 0x70, 0x28, 0x07, 0x02, 0x40, 0x70, 0x04, 0x16, 0x01, 0x81, 0x00, 0x1c, 0x03, 0x09,
        0xc0, 0x10, 0x98, 0x30, 0x01, 0x01, 0x00, 0x0c, 0x23, 0x10}}},
-    {0,
+    {{0, 0},
      {"exits", 12, {
        0x10, 0x08, 0xa0, 0x20, 0x07, 0x00, 0x41, 0x40, 0x5c, 0x01, 0x08, 0x43}}},
-    {1 << 0 | 1 << 1,
+    {{1 << 0 | 1 << 1, 1 << 0},
      {"expanded", 32, {
        0x10, 0x18, 0x70, 0x28, 0x07, 0x01, 0x01, 0xa0, 0x1c, 0x06, 0x01, 0xc0, 0x10, 0x50, 0x10, 0x01,
        0xc0, 0x10, 0x8c, 0x1a, 0x01, 0xc0, 0x60, 0x1c, 0x02, 0x05, 0x01, 0x00, 0x1c, 0x02, 0x08, 0xc1}}},
-    {1 << 1,
+    {{1 << 1, 0},
      {"grown", 14, {
        0x10, 0x09, 0x70, 0x20, 0x02, 0x04, 0x82, 0x70, 0x18, 0x01, 0x04, 0x42, 0x30, 0x40}}},
-    {0,
+    {{0, 0},
+     {"either", 6, {
+       0x10, 0x03, 0x60, 0x0c, 0x00, 0x00}}},
+    {{0, 0},
      {"endless", 5, {
        0x10, 0x02, 0x90, 0x00, 0x00}}},
 };
@@ -56,7 +64,7 @@ static const char *const reasons[] = {
     "exit level too high", "pause label already used", "nodes run out or are left over",
     "the trimmed table is too large", "the output buffer is too short",
     "over 12 signals inside one another", "a list has over 64 reactions",
-    "a result buffer is too short",
+    "a result buffer is too short", "over 10 signals emitted outside a declaration of them",
 };
 
 /* Set once an operation refuses. */
@@ -68,7 +76,8 @@ static bool accepted(uint32_t answer)
     if (answer == 0)
         return true;
     refused = true;
-    printf("refused %" PRIu32 ": %s\n", answer, answer <= 16 ? reasons[answer] : "unknown");
+    bool known = answer < sizeof reasons / sizeof *reasons;
+    printf("refused %" PRIu32 ": %s\n", answer, known ? reasons[answer] : "unknown");
     return false;
 }
 
@@ -126,12 +135,38 @@ static void trim(const struct table *t)
     putchar('\n');
 }
 
-/* Label sets to list at, each once; the first is the start unless resumed says otherwise. */
+/* Label sets of states to look at, each once; the first is the start unless resumed says otherwise. */
 struct states {
     uint64_t labels[MOST_STATES];
     uint32_t count;
     bool resumed;
 };
+
+static uint32_t mark_of(const struct states *states, uint32_t i)
+{
+    return states->resumed || i > 0;
+}
+
+/* Prints which state it is, and the signals that something is said of. */
+static void print_state(const struct states *states, uint32_t i, const char *what, uint32_t signals)
+{
+    bool resumed = mark_of(states, i);
+    printf(" %s", resumed ? "from labels" : "at the start");
+    if (resumed)
+        print_set(states->labels[i]);
+    printf(", %s", what);
+    print_set(signals);
+    putchar('\n');
+}
+
+static void print_reaction(uint32_t emitted, uint64_t reached)
+{
+    printf(", emitted");
+    print_set(emitted);
+    printf(", reached");
+    print_set(reached);
+    putchar('\n');
+}
 
 static void add_state(struct states *states, uint64_t labels)
 {
@@ -147,32 +182,47 @@ static void list(const struct table *t, uint32_t assumed, struct states states)
     bool follow = !states.resumed;
     for (uint32_t i = 0; i < states.count; i++) {
         uint8_t o[4 * MOST_REACTIONS], k[MOST_REACTIONS], l[8 * MOST_REACTIONS];
-        uint32_t count, mark = states.resumed || i > 0;
+        uint32_t count;
         printf("  list   ");
-        if (!accepted(deskheron_list(t->bytes, t->len, assumed, mark, states.labels[i], o, sizeof o,
-                                     k, sizeof k, l, sizeof l, &count)))
+        if (!accepted(deskheron_list(t->bytes, t->len, assumed, mark_of(&states, i), states.labels[i],
+                                     o, sizeof o, k, sizeof k, l, sizeof l, &count)))
             return;
         print_count(count, "reaction");
-        printf(" %s", mark ? "from labels" : "at the start");
-        if (mark)
-            print_set(states.labels[i]);
-        printf(", assumed");
-        print_set(assumed);
-        putchar('\n');
+        print_state(&states, i, "assumed", assumed);
         for (uint32_t r = 0; r < count; r++) {
             uint64_t reached = number(l + 8 * r, 8);
-            printf("         code %d, emitted", k[r]);
-            print_set(number(o + 4 * r, 4));
-            printf(", reached");
-            print_set(reached);
-            putchar('\n');
+            printf("         code %d", k[r]);
+            print_reaction((uint32_t)number(o + 4 * r, 4), reached);
             if (follow && k[r] == 1)
                 add_state(&states, reached);
         }
     }
 }
 
-static void show(const struct table *t, uint32_t assumed, struct states states)
+static void step(const struct table *t, uint32_t provided, struct states states)
+{
+    static const char *const answers[] = {"one", "none", "several"};
+    bool follow = !states.resumed;
+    for (uint32_t i = 0; i < states.count; i++) {
+        uint32_t answer, assumed, emitted, code;
+        uint64_t reached;
+        printf("  step   ");
+        if (!accepted(deskheron_step(t->bytes, t->len, provided, mark_of(&states, i), states.labels[i],
+                                     &answer, &assumed, &emitted, &code, &reached)))
+            return;
+        printf("%s", answers[answer]);
+        print_state(&states, i, "provided", provided);
+        if (answer != 0)
+            continue;
+        printf("         code %" PRIu32 ", assumed", code);
+        print_set(assumed);
+        print_reaction(emitted, reached);
+        if (follow && code == 1)
+            add_state(&states, reached);
+    }
+}
+
+static void show(const struct table *t, struct signals signals, struct states states)
 {
     uint32_t nodes;
     printf("%s, %zu bytes\n  check  ", t->name, t->len);
@@ -181,7 +231,8 @@ static void show(const struct table *t, uint32_t assumed, struct states states)
         putchar('\n');
         reach(t);
         trim(t);
-        list(t, assumed, states);
+        list(t, signals.assumed, states);
+        step(t, signals.provided, states);
     }
 }
 
@@ -224,31 +275,37 @@ static int complain(const char *what, const char *which)
 
 int main(int argc, char **argv)
 {
-    bool given = false;
-    uint64_t assumed = 0;
+    bool assuming = false, providing = false;
+    uint64_t assumed = 0, provided = 0;
     struct states states = {.count = 1};
     int i = 1;
     for (; i < argc && argv[i][0] == '-'; i += 2) {
-        bool signals = strcmp(argv[i], "-e") == 0, labels = strcmp(argv[i], "-l") == 0;
-        if (!signals && !labels)
-            return complain("usage: bench [-e SIGNAL,..] [-l LABEL,..] [FILE..], not ", argv[i]);
+        bool e = strcmp(argv[i], "-e") == 0, p = strcmp(argv[i], "-i") == 0, l = strcmp(argv[i], "-l") == 0;
+        if (!e && !p && !l)
+            return complain("usage: bench [-e SIGNAL,..] [-i SIGNAL,..] [-l LABEL,..] [FILE..], not ", argv[i]);
         if (i + 1 == argc)
             return complain("numbers are missing after ", argv[i]);
-        if (signals && !read_set(argv[i + 1], 32, &assumed))
+        if (!l && !read_set(argv[i + 1], 32, e ? &assumed : &provided))
             return complain("signals are 0 to 31, as in 0,3; not ", argv[i + 1]);
-        if (labels && !read_set(argv[i + 1], 64, &states.labels[0]))
+        if (l && !read_set(argv[i + 1], 64, &states.labels[0]))
             return complain("labels are 0 to 63, as in 1,2; not ", argv[i + 1]);
-        given |= signals;
-        states.resumed |= labels;
+        assuming |= e;
+        providing |= p;
+        states.resumed |= l;
     }
+    struct signals given = {(uint32_t)assumed, (uint32_t)provided};
     if (i == argc)
-        for (size_t n = 0; n < sizeof shipped / sizeof *shipped; n++)
-            show(&shipped[n].table, given ? (uint32_t)assumed : shipped[n].assumed, states);
+        for (size_t n = 0; n < sizeof shipped / sizeof *shipped; n++) {
+            struct signals own = shipped[n].signals;
+            own.assumed = assuming ? given.assumed : own.assumed;
+            own.provided = providing ? given.provided : own.provided;
+            show(&shipped[n].table, own, states);
+        }
     for (; i < argc; i++) {
         struct table t;
         if (!read_file(argv[i], &t))
             return complain("cannot read ", argv[i]);
-        show(&t, (uint32_t)assumed, states);
+        show(&t, given, states);
     }
     return refused ? 1 : 0;
 }

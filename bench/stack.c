@@ -4,7 +4,9 @@
  *
  * Each entry is called on a stack of its own, painted before, with tables that take it to depth 60;
  * the lowest byte that lost its paint tells. For list these tables also need more room for
- * reactions than list tries first, so that its largest area is on the stack too.
+ * reactions than list tries first, so that its largest area is on the stack too. For step they also
+ * have ten signals that may be emitted or not, and so many reactions under each set of these that
+ * no two sets can be looked at together.
  */
 #include <stdbool.h>
 #include <stdio.h>
@@ -14,8 +16,8 @@
 
 #include "deskheron.h"
 
-enum { MOST_NODES = 1024, MOST_BYTES = 1282, MOST_REACTIONS = 64, DEEPEST = 60, PAINT = 0xa5 };
-enum { PAUSE = 1, GOTOPAUSE, EMIT, EXIT, SIGNAL, PRESENT, SEQUENCE, PARALLEL, LOOP, TRY };
+enum { MOST_NODES = 1024, MOST_BYTES = 1282, MOST_REACTIONS = 64, MOST_FREE = 10, DEEPEST = 60, PAINT = 0xa5 };
+enum { NOTHING, PAUSE, GOTOPAUSE, EMIT, EXIT, SIGNAL, PRESENT, SEQUENCE, PARALLEL, LOOP, TRY };
 
 /* The nodes of a table, parent first. */
 static unsigned nodes[MOST_NODES];
@@ -63,8 +65,20 @@ static void collapsed(void)
     node(EXIT, 1);
 }
 
+/* Ten signals, each emitted where it is assumed. */
+static void tests(void)
+{
+    for (unsigned signal = 0; signal < MOST_FREE; signal++) {
+        if (signal + 1 < MOST_FREE)
+            node(PARALLEL, 0);
+        node(PRESENT, signal);
+        node(EMIT, signal);
+        node(NOTHING, 0);
+    }
+}
+
 /* Behind a pause 32 reactions, and while their list is held another of 32, and while that is held the
-   64 pairs of two lists of 8. */
+   64 pairs of two lists of 8, under each set of the signals tested. */
 static void crowd(void)
 {
     node(SEQUENCE, 0);
@@ -75,6 +89,8 @@ static void crowd(void)
     node(PARALLEL, 0);
     choices(32, 1);
     collapsed();
+    node(PARALLEL, 0);
+    tests();
     node(PARALLEL, 0);
     choices(8, 1);
     choices(8, 9);
@@ -131,6 +147,14 @@ static void call_list(void)
         abort();
 }
 
+static void call_step(void)
+{
+    uint32_t answer, assumed, emitted, code;
+    uint64_t reached;
+    if (deskheron_step(table, table_len, 0, mark, UINT64_MAX, &answer, &assumed, &emitted, &code, &reached))
+        abort();
+}
+
 /* The bytes that a call used of a painted stack. */
 static size_t used(void (*call)(void))
 {
@@ -152,7 +176,9 @@ static size_t used(void (*call)(void))
 static const struct {
     const char *name;
     void (*call)(void);
-} entries[] = {{"check", call_check}, {"reach", call_reach}, {"trim", call_trim}, {"list", call_list}};
+} entries[] = {
+    {"check", call_check}, {"reach", call_reach}, {"trim", call_trim}, {"list", call_list}, {"step", call_step},
+};
 
 enum { ENTRIES = sizeof entries / sizeof *entries };
 

@@ -33,6 +33,14 @@ uint32_t deskheron_list(const uint8_t *table, size_t table_len,
                         uint8_t *o, size_t o_len, uint8_t *k, size_t k_len, uint8_t *l, size_t l_len,
                         uint32_t *count);
 
+/* Looks for reactions of a state, given as for list, under the signals provided joined with those that the reaction emits.
+   answer: 0 where there is one, 1 where there is none, 2 where there are several. On 0, assumed: the signals provided and
+   emitted; emitted: the signals that the reaction emits; code: its code; reached: the labels that it reaches; these four are
+   untouched on 1 and 2. */
+uint32_t deskheron_step(const uint8_t *table, size_t table_len,
+                        uint32_t provided, uint32_t mark, uint64_t labels,
+                        uint32_t *answer, uint32_t *assumed, uint32_t *emitted, uint32_t *code, uint64_t *reached);
+
 #ifdef __cplusplus
 }
 #endif

@@ -1,15 +1,16 @@
-//! A second implementation of document 01, on trees and plain sets, for clarity. It was written
-//! from document 01 and the figures of document 004, to be read beside them; the proved library is
-//! compared with it.
+//! A second implementation of documents 01 and 02, on trees and plain sets, for clarity. It was
+//! written from these and the figures of document 004, to be read beside them; the proved library
+//! is compared with it.
 //!
 //! Signal sets and label sets are numbers, bit n for number n, as document 01 has them.
 
-// the second implementation, in document 01's order
+// the second implementation
 pub mod codes;
 pub mod list;
 pub mod react;
 pub mod report;
 pub mod statement;
+pub mod step;
 pub mod table;
 pub mod trim;
 

@@ -34,6 +34,18 @@ extern "C" {
         l_len: usize,
         count: *mut u32,
     ) -> u32;
+    fn deskheron_step(
+        table: *const u8,
+        table_len: usize,
+        provided: u32,
+        mark: u32,
+        labels: u64,
+        answer: *mut u32,
+        assumed: *mut u32,
+        emitted: *mut u32,
+        code: *mut u32,
+        reached: *mut u64,
+    ) -> u32;
 }
 
 /// A length of 0 may come with any pointer, so it comes with the worst.
@@ -72,12 +84,20 @@ pub fn trim(table: &[u8], out: &mut [u8], nodes: &mut u32, bytes: &mut usize) ->
 }
 
 pub fn list(table: &[u8], asked: Asked, lent: [&mut [u8]; 3], count: &mut u32) -> u32 {
-    let Asked { assumed, mark, labels } = asked;
+    let Asked { signals, mark, labels } = asked;
     let [o, k, l] = lent;
     let [o_len, k_len, l_len] = [o.len(), k.len(), l.len()];
     let [o, k, l] = [o, k, l].map(pointer_mut);
     let (bytes, len) = (pointer(table), table.len());
     unsafe {
-        deskheron_list(bytes, len, assumed, mark, labels, o, o_len, k, k_len, l, l_len, count)
+        deskheron_list(bytes, len, signals, mark, labels, o, o_len, k, k_len, l, l_len, count)
     }
+}
+
+/// `numbers` are the cells for the answer, E, O and k.
+pub fn step(table: &[u8], asked: Asked, numbers: [&mut u32; 4], reached: &mut u64) -> u32 {
+    let Asked { signals, mark, labels } = asked;
+    let [answer, e, o, k] = numbers;
+    let (bytes, len) = (pointer(table), table.len());
+    unsafe { deskheron_step(bytes, len, signals, mark, labels, answer, e, o, k, reached) }
 }

@@ -46,12 +46,18 @@ pub fn state(mark: u32, labels: u64) -> State {
     }
 }
 
-/// The operation list, `places` being the least number of places of the three result buffers.
-pub fn list(bytes: &[u8], e: u32, state: State, places: usize) -> Result<Vec<Reaction>, Refusal> {
+/// The statement that a table holds, or check's refusal or 14.
+pub fn shallow(bytes: &[u8]) -> Result<Statement, Refusal> {
     let p = read(bytes)?;
     if p.nested_signals() > MOST_SIGNALS {
         return Err(14);
     }
+    Ok(p)
+}
+
+/// The operation list, `places` being the least number of places of the three result buffers.
+pub fn list(bytes: &[u8], e: u32, state: State, places: usize) -> Result<Vec<Reaction>, Refusal> {
+    let p = shallow(bytes)?;
     if too_many(&p, state, e) {
         return Err(15);
     }

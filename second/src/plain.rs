@@ -1,6 +1,9 @@
-//! Document 01 a third time, written for speed over decoded nodes and bit sets: what a programmer
+//! The documents a third time, written for speed over decoded nodes and bit sets: what a programmer
 //! would write who wants fast code and no proof. The benchmark times the proved library against
 //! it; the tests compare it with the second implementation.
+
+use crate::react::Reaction;
+use crate::step::{Answer, Step};
 
 /// Children, smallest and largest operand of each kind.
 const KINDS: [(u8, u8, u8); 11] = [
@@ -726,19 +729,29 @@ impl Lister<'_> {
         }
         Ok(())
     }
+
+    /// The list of the table, or 15.
+    fn whole(&mut self, asked: Asked) -> Result<(), u32> {
+        self.area.clear();
+        let listed = match asked.mark {
+            0 => self.start(0, asked.signals),
+            _ => self.resume(0, asked.labels, asked.signals),
+        };
+        listed.map_err(|TooMany| 15)
+    }
 }
 
-/// What list is asked: E, the mark and the label set.
+/// What list and step are asked: the signals that list assumes, or step is provided with, the mark
+/// and the label set.
 #[derive(Clone, Copy, Debug)]
 pub struct Asked {
-    pub assumed: u32,
+    pub signals: u32,
     pub mark: u32,
     pub labels: u64,
 }
 
-/// The operation list: the count.
-pub fn list(table: &[u8], asked: Asked, lent: [&mut [u8]; 3]) -> Result<u32, u32> {
-    let nodes = decode(table)?;
+/// A lister over decoded nodes, with refusal 14.
+fn lister(nodes: &Nodes) -> Result<Lister<'_>, u32> {
     let mut pauses = vec![0; nodes.n];
     let mut names = vec![0_u32; nodes.n];
     let mut nested = vec![0_u8; nodes.n];
@@ -761,12 +774,14 @@ pub fn list(table: &[u8], asked: Asked, lent: [&mut [u8]; 3]) -> Result<u32, u32
     if nested[0] > 12 {
         return Err(14);
     }
-    let mut lister = Lister { nodes: &nodes, pauses, names, area: Vec::with_capacity(256) };
-    let listed = match asked.mark {
-        0 => lister.start(0, asked.assumed),
-        _ => lister.resume(0, asked.labels, asked.assumed),
-    };
-    let Ok(()) = listed else { return Err(15) };
+    Ok(Lister { nodes, pauses, names, area: Vec::with_capacity(256) })
+}
+
+/// The operation list: the count.
+pub fn list(table: &[u8], asked: Asked, lent: [&mut [u8]; 3]) -> Result<u32, u32> {
+    let nodes = decode(table)?;
+    let mut lister = lister(&nodes)?;
+    lister.whole(asked)?;
     let [o, k, l] = lent;
     let count = lister.area.len();
     if o.len() / 4 < count || k.len() < count || l.len() / 8 < count {
@@ -778,4 +793,52 @@ pub fn list(table: &[u8], asked: Asked, lent: [&mut [u8]; 3]) -> Result<u32, u32
         l[8 * i..8 * i + 8].copy_from_slice(&(*r as u64).to_be_bytes());
     }
     Ok(count as u32)
+}
+
+/// The signals that are emitted outside a declaration of them.
+fn emitted_free(nodes: &Nodes) -> u32 {
+    let mut free = vec![0_u32; nodes.n];
+    for i in (0..nodes.n).rev() {
+        let (node, second) = (nodes.node[i], usize::from(nodes.second[i]));
+        free[i] = match kind(node) {
+            3 => 1 << operand(node),
+            0..=4 => 0,
+            5 => free[i + 1] & !(1 << operand(node)),
+            6..=8 => free[i + 1] | free[second],
+            _ => free[i + 1],
+        };
+    }
+    free[0]
+}
+
+/// The operation step the plain way: a list under each E.
+pub fn step(table: &[u8], asked: Asked) -> Result<Answer, u32> {
+    let nodes = decode(table)?;
+    let mut lister = lister(&nodes)?;
+    let free = emitted_free(&nodes);
+    if free.count_ones() > 10 {
+        return Err(17);
+    }
+    let (provided, unknown) = (asked.signals, free & !asked.signals);
+    let (mut found, mut several, mut some) = (None, false, 0_u32);
+    loop {
+        let e = provided | some;
+        lister.whole(Asked { signals: e, ..asked })?;
+        for &r in lister.area.iter().filter(|r| provided | emitted(**r) == e) {
+            several |= found.is_some();
+            found = Some(r);
+        }
+        if some == unknown {
+            break;
+        }
+        some = some.wrapping_sub(unknown) & unknown;
+    }
+    Ok(match found {
+        None => Answer::None,
+        Some(_) if several => Answer::Several,
+        Some(r) => {
+            let r = Reaction { o: emitted(r), k: code(r), l: r as u64 };
+            Answer::One(Step { e: provided | r.o, r })
+        }
+    })
 }

@@ -72,6 +72,13 @@ pub fn statement(random: &mut Random, taste: &Taste, n: usize, depth: usize) -> 
     Maker { random, taste, labels }.statement(n, depth, 0)
 }
 
+/// A valid statement of low to high nodes, to the taste of one of the first four.
+pub fn program(random: &mut Random, low: usize, high: usize) -> Statement {
+    let taste = &TASTES[random.below(4)];
+    let n = random.between(low, high);
+    statement(random, taste, n, 60)
+}
+
 struct Maker<'a> {
     random: &'a mut Random,
     taste: &'a Taste,

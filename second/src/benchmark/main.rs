@@ -1,10 +1,12 @@
 //! Times each operation of the proved library against the plain implementation, on the same
 //! generated tables in one process. What both answer is compared first: for reach its sets and
-//! rounds, for the others a refusal or the count.
+//! rounds, for step all that it gives, for the others a refusal or the count.
 //!
 //! Each figure is the best of several batches that take turns. Result buffers are not cleared
 //! before a call. A call includes everything that the operation does, the making ready of its
 //! work area too.
+
+mod stepping;
 
 use second::library;
 use second::plain::{self, Asked};
@@ -156,8 +158,8 @@ fn branches(n: usize) -> Statement {
     even((1..=8).map(part).collect(), present)
 }
 
-const START: Asked = Asked { assumed: u32::MAX, mark: 0, labels: 0 };
-const RESUMED: Asked = Asked { assumed: u32::MAX, mark: 1, labels: u64::MAX };
+const START: Asked = Asked { signals: u32::MAX, mark: 0, labels: 0 };
+const RESUMED: Asked = Asked { signals: u32::MAX, mark: 1, labels: u64::MAX };
 
 fn accepted(table: &[u8], asked: Asked) -> bool {
     plain::list(table, asked, [&mut [0; 4 * 64], &mut [0; 64], &mut [0; 8 * 64]]).is_ok()
@@ -264,4 +266,5 @@ fn main() {
     plain_listings(random_rows(&mut random, tables));
     signal_listings();
     crowded_listings();
+    stepping::steps(&mut random, tables);
 }

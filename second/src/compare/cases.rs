@@ -1,15 +1,17 @@
 //! The second implementation by itself: cases A to L of document 01, and what must hold of it.
 
-use crate::listing::{signals, subsets, work};
+use crate::listing::{signals, work};
 use crate::made::{grown_tables, tables};
 use crate::reaching::made;
+use crate::stepping::{examples, ten_signals};
 use crate::trial::{hex, Outcome};
 use crate::Amount;
 use second::codes::{d, rounds, s, Codes, Labels, Qualified::*};
-use second::list::too_many;
-use second::random::{statement, table, Random, TASTES};
+use second::list::{state, too_many};
+use second::random::{program, table, Random};
 use second::react::{react, Reaction, State, State::*};
 use second::report::report;
+use second::step::{emitted_free, made_of, step, steps_under, subsets, Step};
 use second::table::{check, length, read, write, MOST_DEPTH, MOST_NODES};
 use second::text::{parse, print};
 use second::trim::trim_program;
@@ -135,9 +137,7 @@ pub fn round_trips(amount: Amount) -> Outcome {
 pub fn analysis(amount: Amount) -> Outcome {
     let mut random = Random(21);
     for _ in 0..amount.of(6_000) {
-        let taste = &TASTES[random.below(4)];
-        let n = random.between(1, 30);
-        let p = statement(&mut random, taste, n, 60);
+        let p = program(&mut random, 1, 30);
         let (r, i) = rounds(&p);
         same("rounds", i <= p.pauses().count_ones() as usize + 1, true)?;
         same("R among the pauses", r.iter().all(|label| p.pauses() >> label & 1 == 1), true)?;
@@ -171,21 +171,17 @@ pub fn analysis(amount: Amount) -> Outcome {
 /// Trimmed programs have the same reactions along runs of up to six steps, by the rules alone, under
 /// the first eight sets of their signals and from five new states a step at most, but for programs
 /// that need much work and lists of over 64 reactions; a trimmed table that is not refused is accepted
-/// by check.
+/// by check, and earns 14 and 17 only where its source does.
 pub fn trimmed_runs(amount: Amount) -> Outcome {
     let mut random = Random(22);
     for _ in 0..amount.of(6_000) {
-        let p = if random.one_in(4) {
-            made(&mut random)
-        } else {
-            let taste = &TASTES[random.below(4)];
-            let n = random.between(3, 40);
-            statement(&mut random, taste, n, 60)
-        };
+        let p = if random.one_in(4) { made(&mut random) } else { program(&mut random, 3, 40) };
         let q = trim_program(&p);
         if q.nodes() <= MOST_NODES && q.depth() <= MOST_DEPTH {
             same("check of a trimmed table", check(&write(&q)), Ok(q.nodes()))?;
         }
+        same("signals nested deeper", q.nested_signals() > p.nested_signals(), false)?;
+        same("signals emitted outside more", emitted_free(&q) & !emitted_free(&p), 0)?;
         if work(&p) > 500 || read(&write(&p)).is_err() {
             continue;
         }
@@ -207,6 +203,38 @@ pub fn trimmed_runs(amount: Amount) -> Outcome {
                 }
             }
             next = reached.into_iter().filter(|state| met.insert(*state)).take(5).collect();
+        }
+    }
+    Ok(())
+}
+
+/// The worked examples of order 1.
+pub fn stepped(_: Amount) -> Outcome {
+    examples().into_iter().chain([ten_signals()]).try_for_each(|(p, asked, wanted)| {
+        let given = step(&write(&p), asked.signals, state(asked.mark, asked.labels));
+        same(&format!("step of {} from {:x}", print(&p), asked.signals), given, wanted)
+    })
+}
+
+/// No other E than those made of I and the signals that are emitted outside a declaration has a step:
+/// every E over four signals and one more is tried, from I's that have and lack that one. Programs that
+/// need much work are passed over.
+pub fn steps(amount: Amount) -> Outcome {
+    let mut random = Random(23);
+    for _ in 0..amount.of(2_000) {
+        let p = program(&mut random, 2, 24);
+        if work(&p) > 200 {
+            continue;
+        }
+        for state in [Start, Resumed(random.next())] {
+            for i in [0, random.below(16) as u32, 16 | random.below(16) as u32] {
+                let under = |sets: BTreeSet<u32>| -> Vec<Step> {
+                    sets.into_iter().flat_map(|e| steps_under(&p, state, i, e)).collect()
+                };
+                let looked_at = under(made_of(i, emitted_free(&p)));
+                let every = under(made_of(0, 31));
+                same(&format!("steps of {} from {i:x}", print(&p)), looked_at, every)?;
+            }
         }
     }
     Ok(())

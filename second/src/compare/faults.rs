@@ -1,6 +1,7 @@
 //! Faults planted in the second implementation: the comparison has to report each of them.
 
-use crate::tool::{Asked, Operation, ReachCells, Second, Tool};
+use crate::mistakes::{Mistake, MISTAKES};
+use crate::tool::{answer, Asked, Operation, ReachCells, Second, StepCells, Tool};
 use crate::trial::{refusals, Outcome, Trial};
 use std::cell::Cell;
 
@@ -22,6 +23,8 @@ pub enum Fault {
     Result(Place),
     /// a byte past an accepted result is changed
     Beyond(Place),
+    /// step goes a wrong way
+    Wrong(Mistake),
 }
 
 /// The cells and the buffers that are lent to an operation.
@@ -31,11 +34,12 @@ fn lent_to(operation: Operation) -> (&'static [&'static str], &'static [&'static
         Operation::Reach => (&["start_ends", "start_labels", "reached", "rounds"], &[]),
         Operation::Trim => (&["nodes", "bytes"], &["out"]),
         Operation::List => (&["count"], &["o", "k", "l"]),
+        Operation::Step => (&["answer", "assumed", "emitted", "code", "reached"], &[]),
     }
 }
 
 /// The faults of an operation: each number changed, and each thing lent touched before each refusal,
-/// in an accepted result, and past it.
+/// in an accepted result, and past it; for step also the mistakes.
 fn faults(operation: Operation) -> Vec<Fault> {
     let refusals = || refusals(operation).map(|refusal| refusal as u32);
     let (cells, buffers) = lent_to(operation);
@@ -47,6 +51,9 @@ fn faults(operation: Operation) -> Vec<Fault> {
             faults.push(Fault::Result(place));
         }
         faults.extend(buffers.iter().map(|lent| Fault::Beyond(Place { lent, last })));
+    }
+    if operation == Operation::Step {
+        faults.extend(MISTAKES.iter().copied().map(Fault::Wrong));
     }
     faults
 }
@@ -170,6 +177,27 @@ impl Tool for Planted {
             ("count", Lent::Number(count)),
         ];
         self.spoil(answer, lent)
+    }
+
+    fn step(&self, table: &[u8], asked: Asked, cells: &mut StepCells) -> u32 {
+        let mut wrong = *cells;
+        let right = Second.step(table, asked, cells);
+        if let Fault::Wrong(mistake) = self.fault {
+            let given = answer(mistake.step(table, asked), |found| wrong.store(found));
+            if (given, wrong) != (right, *cells) && self.turn() {
+                *cells = wrong;
+                return given;
+            }
+        }
+        let StepCells { answer, assumed, emitted, code, reached } = cells;
+        let lent = &mut [
+            ("answer", Lent::Number(answer)),
+            ("assumed", Lent::Number(assumed)),
+            ("emitted", Lent::Number(emitted)),
+            ("code", Lent::Number(code)),
+            ("reached", Lent::Set(reached)),
+        ];
+        self.spoil(right, lent)
     }
 }
 

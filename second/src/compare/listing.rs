@@ -1,14 +1,16 @@
 //! Comparing list, and the search along common runs of a table and its trimmed table.
 
 use crate::checking::edge_tables;
+use crate::stepping::same_answer;
 use crate::tool::Asked;
 use crate::trial::{Outcome, Seen, Trial};
 use crate::trimming::AMPLE;
 use crate::Amount;
 use second::list::{state, too_many, MOST_REACTIONS, MOST_SIGNALS};
-use second::random::{any_table, statement, Random, Taste, TASTES};
+use second::random::{any_table, program, statement, Random, Taste, TASTES};
 use second::react::react;
 use second::statement::Statement::{self, *};
+use second::step::subsets;
 use second::table::{read, write};
 use second::text::parse;
 use second::trees::*;
@@ -26,59 +28,57 @@ pub fn signals(p: &Statement) -> u32 {
     p.children().fold(own, |set, child| set | signals(child))
 }
 
-/// Every subset of a set.
-pub fn subsets(set: u64) -> impl Iterator<Item = u64> {
-    let mut next = Some(0);
-    std::iter::from_fn(move || {
-        let now = next?;
-        next = (now != set).then_some((now.wrapping_sub(set)) & set);
-        Some(now)
-    })
-}
-
 /// About how many lists the second implementation makes, so that tests stay short.
 pub fn work(p: &Statement) -> usize {
     let below: usize = p.children().map(work).sum();
     1 + if matches!(p, Signal(_, _)) { 2 * below } else { below }
 }
 
-pub fn start(assumed: u32) -> Asked {
-    Asked { assumed, mark: 0, labels: u64::MAX }
+pub fn start(signals: u32) -> Asked {
+    Asked { signals, mark: 0, labels: u64::MAX }
 }
 
-pub fn resumed(assumed: u32, labels: u64) -> Asked {
-    Asked { assumed, mark: 1, labels }
+pub fn resumed(signals: u32, labels: u64) -> Asked {
+    Asked { signals, mark: 1, labels }
 }
 
-/// Every tree of a few nodes over these leaves that check accepts, S0 being the only signal of inner
-/// nodes: at the start and resumed from every set of its own labels, with nothing assumed and, where
-/// the tree uses S0, with S0.
+/// Visits every tree of n nodes over these leaves that check accepts, S0 being the only signal of inner
+/// nodes: at the start and resumed from every set of its own labels, with every set of the signals that
+/// it uses.
+pub fn each_state(
+    n: usize,
+    leaves: &[Statement],
+    visit: &mut dyn FnMut(&[u8], Asked) -> Outcome,
+) -> Outcome {
+    each_tree(n, leaves, &mut |p| {
+        let table = write(p);
+        if read(&table).is_err() {
+            return Ok(());
+        }
+        for e in subsets(signals(p).into()) {
+            visit(&table, start(e as u32))?;
+            for labels in subsets(p.pauses()) {
+                visit(&table, resumed(e as u32, labels))?;
+            }
+        }
+        Ok(())
+    })
+}
+
+/// Every state of every tree of a few nodes over these leaves.
 pub fn small_trees(t: &mut Trial, amount: Amount) -> Outcome {
     let leaves = [Nothing, Pause(1), Pause(2), Gotopause(1), Emit(0), Exit(1)];
-    for n in 1..=amount.tree_nodes() {
-        each_tree(n, &leaves, &mut |p| {
-            let table = write(p);
-            if read(&table).is_err() {
-                return Ok(());
-            }
-            for e in subsets(signals(p).into()) {
-                t.list(&table, start(e as u32), ROOMY)?;
-                for labels in subsets(p.pauses()) {
-                    t.list(&table, resumed(e as u32, labels), ROOMY)?;
-                }
-            }
-            Ok(())
-        })?;
-    }
-    Ok(())
+    (1..=amount.tree_nodes()).try_for_each(|n| {
+        each_state(n, &leaves, &mut |table, asked| t.list(table, asked, ROOMY).map(|_| ()))
+    })
 }
 
 /// A search for the reason of a 15: whether it is given for an inner list alone.
 fn ask(t: &mut Trial, p: &Statement, asked: Asked) -> Outcome {
     let state = state(asked.mark, asked.labels);
     if p.nested_signals() <= 12
-        && too_many(p, state, asked.assumed)
-        && react(p, state, asked.assumed).len() <= MOST_REACTIONS
+        && too_many(p, state, asked.signals)
+        && react(p, state, asked.signals).len() <= MOST_REACTIONS
     {
         t.counts.see(Seen::InnerTooMany);
     }
@@ -200,15 +200,26 @@ pub fn buffers(t: &mut Trial, amount: Amount) -> Outcome {
     Ok(())
 }
 
+/// The start, and states resumed from every set of p's labels where there are at most two, else from
+/// so many random sets, by any mark.
+pub fn some_states(random: &mut Random, p: &Statement, signals: u32, count: usize) -> Vec<Asked> {
+    let labels: Vec<u64> = if p.pauses().count_ones() <= 2 {
+        subsets(p.pauses()).collect()
+    } else {
+        (0..count).map(|_| random.next() & (random.next() | p.pauses())).collect()
+    };
+    let mut mark = || random.pick(&[1, 2, 256, 65_536, u32::MAX]);
+    let resumed = labels.into_iter().map(|labels| Asked { signals, mark: mark(), labels });
+    std::iter::once(start(signals)).chain(resumed).collect()
+}
+
 /// Random programs of 3 to 40 nodes, under the first 16 sets of their signals, at the start and
 /// resumed from every set of their labels where there are at most two, else from five random sets.
 /// Programs whose listing would take too long are passed over.
 pub fn random_programs(t: &mut Trial, amount: Amount) -> Outcome {
     let mut random = Random(9);
     for _ in 0..amount.of(8_000) {
-        let taste = &TASTES[random.below(4)];
-        let n = random.between(3, 40);
-        let p = statement(&mut random, taste, n, 60);
+        let p = program(&mut random, 3, 40);
         if work(&p) > 2_000 {
             continue;
         }
@@ -216,15 +227,8 @@ pub fn random_programs(t: &mut Trial, amount: Amount) -> Outcome {
         let noise = random.next();
         for e in subsets(signals(&p).into()).take(16) {
             let assumed = e as u32 | noise as u32 & !signals(&p);
-            t.list(&table, start(assumed), ROOMY)?;
-            let states: Vec<u64> = if p.pauses().count_ones() <= 2 {
-                subsets(p.pauses()).collect()
-            } else {
-                (0..5).map(|_| random.next() & (random.next() | p.pauses())).collect()
-            };
-            for labels in states {
-                let mark = random.pick(&[1, 2, 256, 65_536, u32::MAX]);
-                t.list(&table, Asked { assumed, mark, labels }, ROOMY)?;
+            for asked in some_states(&mut random, &p, assumed, 5) {
+                t.list(&table, asked, ROOMY)?;
             }
         }
     }
@@ -246,7 +250,7 @@ fn ambiguous(random: &mut Random, levels: usize) -> Statement {
 }
 
 /// A program with many reactions in a state: one for each label, and choices after it.
-fn crowded(random: &mut Random) -> Statement {
+pub fn crowded(random: &mut Random) -> Statement {
     let blocks = (1..=random.between(2, 20) as u8)
         .map(|label| {
             let levels = random.below(4);
@@ -326,7 +330,7 @@ fn testing(random: &mut Random, signals: u8, n: usize) -> Statement {
 
 /// A program inside so many signals, most of which it emits and tests. Between them, now and then, a
 /// loop, a try or another part; now and then one signal is declared twice.
-fn tested(random: &mut Random, signals: u8, n: usize) -> Statement {
+pub fn tested(random: &mut Random, signals: u8, n: usize) -> Statement {
     let body = match random.below(6) {
         0 | 1 => {
             let tests = random.between(1, if signals > 8 { 8 } else { 10 });
@@ -416,6 +420,15 @@ pub fn told_apart(t: &mut Trial, _: Amount) -> Outcome {
     Ok(())
 }
 
+/// Most signals, and the start or a state with a few labels.
+pub fn any_state(random: &mut Random) -> Asked {
+    Asked {
+        signals: random.next() as u32 | random.next() as u32,
+        mark: random.below(3) as u32,
+        labels: random.next() & random.next(),
+    }
+}
+
 /// The edges of check, and random tables, valid and damaged, with buffers of any length up to 70
 /// reactions. Programs whose listing would take too long are passed over.
 pub fn random_tables(t: &mut Trial, amount: Amount) -> Outcome {
@@ -429,11 +442,7 @@ pub fn random_tables(t: &mut Trial, amount: Amount) -> Outcome {
         if read(&table).is_ok_and(|p| p.nested_signals() <= 12 && work(&p) > 4_000) {
             continue;
         }
-        let asked = Asked {
-            assumed: random.next() as u32 | random.next() as u32,
-            mark: random.below(3) as u32,
-            labels: random.next() & random.next(),
-        };
+        let asked = any_state(&mut random);
         let lent = if random.one_in(3) { ROOMY.map(|b| random.below(b)) } else { ROOMY };
         t.list(&table, asked, lent)?;
     }
@@ -446,9 +455,7 @@ pub fn random_tables(t: &mut Trial, amount: Amount) -> Outcome {
 pub fn runs(t: &mut Trial, amount: Amount) -> Outcome {
     let mut random = Random(11);
     for _ in 0..amount.of(10_000) {
-        let taste = &TASTES[random.below(4)];
-        let n = random.between(5, 36);
-        let p = statement(&mut random, taste, n, 60);
+        let p = program(&mut random, 5, 36);
         if work(&p) > 1_000 {
             continue;
         }
@@ -460,9 +467,10 @@ pub fn runs(t: &mut Trial, amount: Amount) -> Outcome {
             let mut reached = BTreeSet::new();
             for &labels in &next {
                 for e in subsets(signals(&p).into()).take(16) {
-                    let asked = Asked { assumed: e as u32, mark: steps, labels };
+                    let asked = Asked { signals: e as u32, mark: steps, labels };
                     let here = t.list(&table, asked, ROOMY)?;
                     let there = t.list(&trimmed, asked, ROOMY)?;
+                    same_answer(t, [&table, &trimmed], asked, steps)?;
                     let (Some(here), Some(there)) = (here, there) else { continue };
                     if here != there {
                         return Err(format!(

@@ -3,6 +3,7 @@
 
 use crate::checking::raw;
 use crate::listing::{inside_signals, resumed, start, ROOMY};
+use crate::stepping::examples;
 use crate::trial::{Outcome, Trial};
 use crate::trimming::AMPLE;
 use crate::Amount;
@@ -111,5 +112,20 @@ pub fn list(t: &mut Trial, _: Amount) -> Outcome {
     }
     t.list(&few, start(u32::MAX), ROOMY)?;
     t.list(&write(&parallel(side(1..=8), side(9..=16))), resumed(0, u64::MAX), ROOMY)?;
+    Ok(())
+}
+
+/// Check's refusals; the worked examples, which have 14, 15 and 17 and every answer; signals provided
+/// that the table does not name; several under one E.
+pub fn step(t: &mut Trial, _: Amount) -> Outcome {
+    for (_, table) in tables() {
+        t.step(&table, start(0))?;
+        t.step(&table, resumed(0, u64::MAX))?;
+    }
+    for (p, asked, _) in examples() {
+        t.step(&write(&p), asked)?;
+    }
+    t.step(&write(&parse("1:pause ; emit S0")), resumed(1 << 31, 3))?;
+    t.step(&write(&parse("1:pause ; 2:pause")), resumed(0, 6))?;
     Ok(())
 }

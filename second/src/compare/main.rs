@@ -14,8 +14,10 @@ mod checking;
 mod faults;
 mod listing;
 mod made;
+mod mistakes;
 mod reaching;
 mod samples;
+mod stepping;
 mod tool;
 mod trial;
 mod trimming;
@@ -88,6 +90,20 @@ fn groups(operation: Operation) -> &'static [Group] {
             ("63 to 66 ways told apart by signals", listing::told_apart),
             ("edges and random tables", listing::random_tables),
         ],
+        Operation::Step => &[
+            ("each refusal", made::step),
+            ("worked examples", stepping::worked),
+            ("small trees", stepping::small_trees),
+            ("2 to 12 signals emitted outside a declaration", stepping::free_signals),
+            ("14 before 17", stepping::nested_and_free),
+            ("64 and 65 reactions under some E", stepping::crowded_sets),
+            ("ways told apart by E", stepping::told_apart),
+            ("the largest stack", stepping::largest_stack),
+            ("random programs", stepping::random_programs),
+            ("1 to 1,024 sets E", stepping::many_sets),
+            ("crowded programs", stepping::crowded_programs),
+            ("edges and random tables", stepping::random_tables),
+        ],
     }
 }
 
@@ -124,9 +140,7 @@ impl Results {
                 self.run(&format!("{name} {operation:?}: {group}"), || test(t, amount));
             }
         }
-        if operations.contains(&Operation::Trim) && operations.contains(&Operation::List) {
-            self.run(&format!("{name}: runs of the trimmed table"), || listing::runs(t, amount));
-        }
+        self.run(&format!("{name}: runs of the trimmed table"), || listing::runs(t, amount));
         self.run(&format!("{name}: what is counted was met"), || {
             let missing = t.counts.missing(operations);
             if missing.is_empty() {
@@ -153,7 +167,12 @@ fn planted() -> Outcome {
 fn memory(results: &mut Results) {
     let mut t = Trial::new(&Library);
     t.margin = 0;
-    results.run("memory of the largest stack", || listing::largest_stack(&mut t, Amount(1)));
+    for (name, test) in [
+        ("list", listing::largest_stack as fn(&mut Trial, Amount) -> Outcome),
+        ("step", stepping::largest_stack),
+    ] {
+        results.run(&format!("memory of the largest stack of {name}"), || test(&mut t, Amount(1)));
+    }
     for operation in OPERATIONS {
         let groups = groups(operation);
         for (name, test) in [groups[0], groups[groups.len() - 1]] {
@@ -168,6 +187,8 @@ fn bounded(results: &mut Results, amount: Amount) {
     results.run("reading and writing", || cases::round_trips(amount));
     results.run("codes and reactions", || cases::analysis(amount));
     results.run("runs of trimmed programs", || cases::trimmed_runs(amount));
+    results.run("worked examples of step", || cases::stepped(amount));
+    results.run("steps under every set", || cases::steps(amount));
     results.run("samples", samples::samples);
     results.run("planted faults are reported", planted);
 

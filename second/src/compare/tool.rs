@@ -1,8 +1,10 @@
-//! What is compared: something that answers the four calls of the C interface. The proved library,
+//! What is compared: something that answers the five calls of the C interface. The proved library,
 //! the second implementation, and the plain one of the benchmark.
 
 pub use second::plain::Asked;
-use second::{codes, library, list, plain, table, trim};
+use second::react::Reaction;
+use second::step::Answer;
+use second::{codes, library, list, plain, step, table, trim};
 
 #[derive(Clone, Copy, Debug, PartialEq, Eq)]
 pub enum Operation {
@@ -10,11 +12,12 @@ pub enum Operation {
     Reach,
     Trim,
     List,
+    Step,
 }
 
 use Operation::*;
 
-pub const OPERATIONS: [Operation; 4] = [Check, Reach, Trim, List];
+pub const OPERATIONS: [Operation; 5] = [Check, Reach, Trim, List, Step];
 
 /// Where reach leaves its results.
 #[derive(Clone, Copy, Debug, PartialEq, Eq)]
@@ -25,19 +28,56 @@ pub struct ReachCells {
     pub rounds: u32,
 }
 
+/// Where step leaves its results.
+#[derive(Clone, Copy, Debug, PartialEq, Eq)]
+pub struct StepCells {
+    pub answer: u32,
+    pub assumed: u32,
+    pub emitted: u32,
+    pub code: u32,
+    pub reached: u64,
+}
+
+impl StepCells {
+    /// "One" is 0 and goes to all of them; "none" is 1 and "several" 2, which leave the other four.
+    pub fn store(&mut self, answer: Answer) {
+        match answer {
+            Answer::One(step::Step { e, r: Reaction { o, k, l } }) => {
+                let code = k.into();
+                *self = StepCells { answer: 0, assumed: e, emitted: o, code, reached: l };
+            }
+            Answer::None => self.answer = 1,
+            Answer::Several => self.answer = 2,
+        }
+    }
+
+    /// The answer that was stored.
+    pub fn stored(&self) -> Answer {
+        match self.answer {
+            0 => {
+                let r = Reaction { o: self.emitted, k: self.code as u8, l: self.reached };
+                Answer::One(step::Step { e: self.assumed, r })
+            }
+            1 => Answer::None,
+            _ => Answer::Several,
+        }
+    }
+}
+
 /// Each answers 0 or the refusal and gives its results through what is lent, as in C.
 pub trait Tool {
     fn check(&self, table: &[u8], nodes: &mut u32) -> u32;
     fn reach(&self, table: &[u8], cells: &mut ReachCells) -> u32;
     fn trim(&self, table: &[u8], out: &mut [u8], nodes: &mut u32, bytes: &mut usize) -> u32;
     fn list(&self, table: &[u8], asked: Asked, lent: [&mut [u8]; 3], count: &mut u32) -> u32;
+    fn step(&self, table: &[u8], asked: Asked, cells: &mut StepCells) -> u32;
 }
 
 /// The second implementation.
 pub struct Second;
 
 /// Stores an accepted answer through `store`, or passes the refusal on.
-fn answer<T>(result: Result<T, u32>, store: impl FnOnce(T)) -> u32 {
+pub fn answer<T>(result: Result<T, u32>, store: impl FnOnce(T)) -> u32 {
     match result {
         Ok(value) => {
             store(value);
@@ -75,7 +115,7 @@ impl Tool for Second {
         let [o, k, l] = lent;
         let places = (o.len() / 4).min(k.len()).min(l.len() / 8);
         let state = list::state(asked.mark, asked.labels);
-        answer(list::list(table, asked.assumed, state, places), |reactions| {
+        answer(list::list(table, asked.signals, state, places), |reactions| {
             for (i, r) in reactions.iter().enumerate() {
                 o[4 * i..4 * i + 4].copy_from_slice(&r.o.to_be_bytes());
                 k[i] = r.k;
@@ -83,6 +123,11 @@ impl Tool for Second {
             }
             *count = reactions.len() as u32;
         })
+    }
+
+    fn step(&self, table: &[u8], asked: Asked, cells: &mut StepCells) -> u32 {
+        let state = list::state(asked.mark, asked.labels);
+        answer(step::step(table, asked.signals, state), |found| cells.store(found))
     }
 }
 
@@ -107,6 +152,10 @@ impl Tool for Plain {
     fn list(&self, table: &[u8], asked: Asked, lent: [&mut [u8]; 3], count: &mut u32) -> u32 {
         answer(plain::list(table, asked, lent), |n| *count = n)
     }
+
+    fn step(&self, table: &[u8], asked: Asked, cells: &mut StepCells) -> u32 {
+        answer(plain::step(table, asked), |found| cells.store(found))
+    }
 }
 
 /// The proved library.
@@ -128,5 +177,10 @@ impl Tool for Library {
 
     fn list(&self, table: &[u8], asked: Asked, lent: [&mut [u8]; 3], count: &mut u32) -> u32 {
         library::list(table, asked, lent, count)
+    }
+
+    fn step(&self, table: &[u8], asked: Asked, cells: &mut StepCells) -> u32 {
+        let StepCells { answer, assumed, emitted, code, reached } = cells;
+        library::step(table, asked, [answer, assumed, emitted, code], reached)
     }
 }

@@ -2,17 +2,19 @@
 //! lent painted alike, and all of it is compared afterwards, a margin on both sides of a buffer and
 //! the table included. What was met is counted.
 
-use crate::tool::{Asked, Operation, ReachCells, Second, Tool};
+use crate::listing::signals;
+use crate::tool::{Asked, Operation, ReachCells, Second, StepCells, Tool, OPERATIONS};
 use second::list::{MOST_REACTIONS, MOST_SIGNALS};
 use second::met::{count, counting, Event, CASES, RULES};
 use second::react::Reaction;
+use second::step::{emitted_free, Answer, MOST_FREE};
 use second::table::{bits, read};
 use second::text::print;
 pub use second::trees::Outcome;
 use std::fmt::Debug;
 
-/// The reactions, none where the call was refused.
-pub type Listed = Result<Option<Vec<Reaction>>, String>;
+/// What an operation gives where it is not refused.
+pub type Given<T> = Result<Option<T>, String>;
 
 /// The largest node counts of the size classes of accepted tables.
 const SIZES: [usize; 7] = [1, 4, 16, 64, 256, 1023, 1024];
@@ -35,9 +37,17 @@ pub enum Seen {
     /// listings of a table and of its trimmed table, the same and not empty, after three or more
     /// steps of a run
     LongRun,
+    /// the same step of a table and of its trimmed table, after three or more steps of a run
+    LongStep,
+    /// a step although a signal is provided that the table does not name
+    ForeignProvided,
+    /// 15 though only an E without a step has a list of over 64 reactions, and another E has a step
+    CrowdedElsewhere,
+    /// a step is answered though the lists under all E's have over 64 reactions together
+    ManyTogether,
 }
 
-pub const SEEN: [Seen; 7] = [
+pub const SEEN: [Seen; 11] = [
     Seen::TrimmedChanged,
     Seen::TrimmedGrew,
     Seen::ManyRounds,
@@ -45,15 +55,23 @@ pub const SEEN: [Seen; 7] = [
     Seen::EmptyListing,
     Seen::InnerTooMany,
     Seen::LongRun,
+    Seen::LongStep,
+    Seen::ForeignProvided,
+    Seen::CrowdedElsewhere,
+    Seen::ManyTogether,
 ];
+
+const COUNT: usize = OPERATIONS.len();
 
 #[derive(Default)]
 pub struct Counts {
-    pub calls: [u64; 4],
-    refusals: [[u64; 17]; 4],
-    sizes: [[u64; SIZES.len()]; 4],
-    kinds: [[u64; 11]; 4],
+    pub calls: [u64; COUNT],
+    refusals: [[u64; 18]; COUNT],
+    sizes: [[u64; SIZES.len()]; COUNT],
+    kinds: [[u64; 11]; COUNT],
     seen: [u64; SEEN.len()],
+    /// what step answered, one, none or several, by the signals that its sets E differ in
+    answers: [[u64; 3]; MOST_FREE as usize + 1],
     /// accepted listings of the programs made for it, by the signals inside one another
     pub inside: [u64; MOST_SIGNALS + 1],
 }
@@ -114,6 +132,13 @@ impl Counts {
             let inside = inside.map(|(n, count)| (format!("listed inside {n} signals"), count));
             sorts.push(("nestings of signals listed", inside.collect()));
         }
+        if operations.contains(&Operation::Step) {
+            let each = self.answers.iter().enumerate().flat_map(|(n, counts)| {
+                let named = ["one", "none", "several"].into_iter().zip(counts);
+                named.map(move |(answer, count)| (format!("{answer} with {n} signals"), *count))
+            });
+            sorts.push(("answers of step", each.collect()));
+        }
         sorts
     }
 
@@ -137,6 +162,11 @@ impl Counts {
                 refused.join(", ")
             );
         }
+        if operations.contains(&Operation::Step) {
+            let [one, none, several] =
+                [0, 1, 2].map(|i| self.answers.iter().map(|n| n[i]).sum::<u64>());
+            println!("  Step: one {one}, none {none}, several {several}");
+        }
         let seen: Vec<String> = SEEN
             .iter()
             .filter(|seen| due(**seen, operations))
@@ -153,12 +183,13 @@ impl Counts {
 
 /// The refusals that an operation can give.
 pub fn refusals(operation: Operation) -> impl Iterator<Item = usize> {
-    let own = match operation {
-        Operation::Check | Operation::Reach => 0..0,
-        Operation::Trim => 12..14,
-        Operation::List => 14..17,
+    let own: &[usize] = match operation {
+        Operation::Check | Operation::Reach => &[],
+        Operation::Trim => &[12, 13],
+        Operation::List => &[14, 15, 16],
+        Operation::Step => &[14, 15, 17],
     };
-    (1..12).chain(own)
+    (1..12).chain(own.iter().copied())
 }
 
 /// Whether these operations have to bring a sight about.
@@ -168,6 +199,8 @@ fn due(seen: Seen, operations: &[Operation]) -> bool {
         Seen::ManyRounds => &[Operation::Reach],
         Seen::FullListing | Seen::EmptyListing | Seen::InnerTooMany => &[Operation::List],
         Seen::LongRun => &[Operation::Trim, Operation::List],
+        Seen::LongStep => &[Operation::Trim, Operation::List, Operation::Step],
+        Seen::ForeignProvided | Seen::CrowdedElsewhere | Seen::ManyTogether => &[Operation::Step],
     };
     needed.iter().all(|operation| operations.contains(operation))
 }
@@ -239,7 +272,7 @@ impl Trial<'_> {
     }
 
     /// Trims into a buffer of so many bytes; the trimmed table where it is accepted.
-    pub fn trim(&mut self, table: &[u8], buffer: usize) -> Result<Option<Vec<u8>>, String> {
+    pub fn trim(&mut self, table: &[u8], buffer: usize) -> Given<Vec<u8>> {
         let (paint, margin) = (self.next_paint(), self.margin);
         let ask = |tool: &dyn Tool, table: &[u8]| {
             let mut out = painted(buffer, margin, paint);
@@ -263,7 +296,7 @@ impl Trial<'_> {
     }
 
     /// Lists into buffers of so many bytes; the reactions where it is accepted.
-    pub fn list(&mut self, table: &[u8], asked: Asked, lent: [usize; 3]) -> Listed {
+    pub fn list(&mut self, table: &[u8], asked: Asked, lent: [usize; 3]) -> Given<Vec<Reaction>> {
         let (paint, margin) = (self.next_paint(), self.margin);
         let ask = |tool: &dyn Tool, table: &[u8]| {
             let [mut o, mut k, mut l] = lent.map(|bytes| painted(bytes, margin, paint));
@@ -291,6 +324,36 @@ impl Trial<'_> {
             l: u64::from_be_bytes(l.try_into().unwrap()),
         };
         Ok(Some(places.take(count).map(reaction).collect()))
+    }
+
+    /// Steps from the provided set; the answer where it is accepted.
+    pub fn step(&mut self, table: &[u8], asked: Asked) -> Given<Answer> {
+        let paint = u64::from(self.next_paint()) * 0x0101_0101_0101_0101;
+        let number = paint as u32;
+        let painted = StepCells {
+            answer: number,
+            assumed: number,
+            emitted: number,
+            code: number,
+            reached: paint,
+        };
+        let ask = |tool: &dyn Tool, table: &[u8]| {
+            let mut cells = [painted; 3];
+            (tool.step(table, asked, &mut cells[1]), cells)
+        };
+        let (answer, cells) =
+            self.compare(Operation::Step, table, ask, || format!("{asked:x?}"))?;
+        if answer != 0 {
+            return Ok(None);
+        }
+        let p = read(table).unwrap();
+        let unknown = emitted_free(&p) & !asked.signals;
+        let at = unknown.count_ones() as usize;
+        self.counts.answers[at][cells[1].answer as usize] += 1;
+        if cells[1].answer == 0 && asked.signals & !signals(&p) != 0 {
+            self.counts.see(Seen::ForeignProvided);
+        }
+        Ok(Some(cells[1].stored()))
     }
 
     /// Asks both sides, each with a table of its own, and compares what came back: 0 or the
