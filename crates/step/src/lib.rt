@@ -75,15 +75,15 @@ fn step_with(
             if MOST_FREE < sets::count(free) {
                 return Stepped::Refused(TOO_FREE);
             }
-            let given = provided as u64;
-            let unknown = sets::minus(free, given);
+            let answered = provided as u64;
+            let unknown = sets::minus(free, answered);
             looking::look(
                 nodes,
                 ends,
                 notes,
                 unions,
                 provided,
-                given,
+                answered,
                 unknown,
                 list::state_of(mark, labels),
                 area,

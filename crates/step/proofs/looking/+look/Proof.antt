@@ -35,7 +35,26 @@ abbrev look-below : ℕ → In 5 look-kinds.ps
 look-below t = and 5 look-kinds.ps (falls 5 look-kinds.ps _<_ μ-look t) look.Pre
 
 abbrev claims : ℕ → look-lts.Claims
-claims t = (slotted-reads.Asked, slotted-reads.Learnt, rows-of-reads.Asked, rows-of-reads.Learnt, gather-reads.Asked, gather-reads.Learnt, least-reads.Asked, least-reads.Learnt, without-reads.Asked, without-reads.Learnt, with-reads.Asked, with-reads.Learnt, look-below t, look.Post, refusal-reads.Asked, refusal-reads.Learnt, joined-reads.Asked, joined-reads.Learnt)
+claims t = (
+  slotted-reads.Asked,
+  slotted-reads.Learnt,
+  rows-of-reads.Asked,
+  rows-of-reads.Learnt,
+  gather-reads.Asked,
+  gather-reads.Learnt,
+  least-reads.Asked,
+  least-reads.Learnt,
+  without-reads.Asked,
+  without-reads.Learnt,
+  with-reads.Asked,
+  with-reads.Learnt,
+  look-below t,
+  look.Post,
+  refusal-reads.Asked,
+  refusal-reads.Learnt,
+  joined-reads.Asked,
+  joined-reads.Learnt,
+)
 
 -- the entry, from where the least of the unknown signals is taken
 module _ (t : ℕ) (c : look-lts.After-least (claims t) (look-at t) look.Post) where
