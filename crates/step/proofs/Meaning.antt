@@ -1,10 +1,9 @@
 -- What step answers is the answer: where it is not refused, the table holds a statement, and the values are those of the one answer
 -- that says what there is of steps of that statement in the state from I.
-use mathlib.Core.Path.{_≡_, refl, sym, ap, _∙_}
+use mathlib.Core.Path.{_≡_, refl, sym, ap, _∙_, subst}
 use mathlib.Core.Bool.{Bool, true, false, cond}
 use mathlib.Core.List.{List}
 use Prim.Native.Nat.{ℕ}
-use native.Mathlib.Omega.{arith}
 use lib.Dec.{ltb}
 use Rattle.esterel.specs.Statement.{Statement}
 use Rattle.esterel.specs.Reactions.{State}
@@ -12,16 +11,17 @@ use Rattle.esterel.specs.Listing.{nesting}
 use Rattle.esterel.specs.Stepping.{StepFrom, Answer, IsAnswer, stepping, manyFree, crowdedFrom}
 use Rattle.esterel.proofs.Bounds.{valid-free}
 use Rattle.esterel.proofs.Stepping.{answer-unique, stepping-is}
-use Rattle.table.specs.Outcomes.{refusal, values}
+use Rattle.table.specs.Outcomes.{Outcome, refusal, values}
 use Rattle.table.specs.Reading.{Table, tableOf}
 use Rattle.table.specs.Reading as table
 use Rattle.table.proofs.Accepted.{accepted}
 use Rattle.list.specs.Answers.{stateOf}
 use Rattle.step.specs.Answers.{answerOutcome, stepFor, stepIn, stepOf}
 
--- values are never a refusal's
-never-values : {A : Type 0} (w : ℕ) (vs : List ℕ) → refusal w ≡ values vs → A
-never-values w vs e = absurd (let z : _≡_ {A = ℕ} 0 1 = cc in omega arith)
+-- an outcome that is no refusal
+abbrev Accepts : Outcome → Type 0
+Accepts (refusal w) = ⊥
+Accepts (values vs) = Unit {0}
 
 for-values : (p : Statement) (x : State) (I : ℕ) (vs : List ℕ) → stepFor p x I ≡ values vs → answerOutcome (stepping p x I) ≡ values vs
 unfolding stepFor
@@ -29,9 +29,9 @@ for-values p x I vs = go (ltb 12 (nesting p)) (manyFree p) (crowdedFrom p x I)
   where
     go : (b c d : Bool) → cond b (refusal 14) (cond c (refusal 17) (cond d (refusal 15) (answerOutcome (stepping p x I)))) ≡ values vs
         → answerOutcome (stepping p x I) ≡ values vs
-    go true c d e = never-values 14 vs e
-    go false true d e = never-values 17 vs e
-    go false false true e = never-values 15 vs e
+    go true c d e = absurd (subst Accepts (sym e) tt)
+    go false true d e = absurd (subst Accepts (sym e) tt)
+    go false false true e = absurd (subst Accepts (sym e) tt)
     go false false false e = e
 
 module _ (t : List ℕ) (I mark X : ℕ) (vs : List ℕ) (e : stepOf t I mark X ≡ values vs) where
@@ -51,7 +51,7 @@ module _ (t : List ℕ) (I mark X : ℕ) (vs : List ℕ) (e : stepOf t I mark X 
   answers-mean = go (tableOf t) refl
     where
       go : (T : Table) → tableOf t ≡ T → (n : ℕ) × (p : Statement) × (a : Answer) × (tableOf t ≡ table.holds n p) × IsAnswer p state I a × (answerOutcome a ≡ values vs)
-      go (table.refused w) h = never-values w vs (sym (ap (λ (T : Table). stepIn T I mark X) h) ∙ e)
+      go (table.refused w) h = absurd (subst Accepts (sym e ∙ ap (λ (T : Table). stepIn T I mark X) h) tt)
       go (table.holds n p) h = (n, p, stepping p state I, h, right n p h, computed n p h)
 
   -- and of each that is

@@ -75,15 +75,15 @@ fn step_with(
             if MOST_FREE < sets::count(free) {
                 return Stepped::Refused(TOO_FREE);
             }
-            let answered = provided as u64;
-            let unknown = sets::minus(free, answered);
+            let assumed = provided as u64;
+            let unknown = sets::minus(free, assumed);
             looking::look(
                 nodes,
                 ends,
                 notes,
                 unions,
                 provided,
-                answered,
+                assumed,
                 unknown,
                 list::state_of(mark, labels),
                 area,
