@@ -1,6 +1,6 @@
 -- From what is prepared of a table, and what looking comes to, to the answer.
 use mathlib.Core.Path.{_≡_, refl, sym, ap, _∙_, subst}
-use mathlib.Core.Bool.{Bool, true, false, cond, not, _&&_}
+use mathlib.Core.Bool.{Bool, true, false, cond, not}
 use mathlib.Core.List.{List}
 use Prim.Native.Nat.{ℕ, _≤_, _<_}
 use native.Mathlib.Omega.{arith}
@@ -24,7 +24,7 @@ use Rattle.list.specs.inner.Preparing.{Unready, malformed, nested, Ready}
 use Rattle.step.specs.declared.Stepped.{Stepped}
 use Rattle.step.specs.declared.Stepped.the-variants.{Refused}
 use Rattle.step.specs.Answers.{answerOutcome, stepFor, stepIn, stepOf, steppedOutcome}
-use Rattle.step.specs.inner.Looking.{given, found, Unknowns, Looks}
+use Rattle.step.specs.inner.Looking.{answered, found, Unknowns, Looks}
 
 -- ---- a table that is refused
 unready : {T : Table} {w : ℕ} → Unready T w → (I mark X : ℕ) → refusal w ≡ stepIn T I mark X
@@ -38,16 +38,16 @@ unfolding steppedOutcome stepOf
 unready-step t I mark X u = unready u I mark X
 
 -- ---- one that is not
-outcome-given : (a : Answer) → steppedOutcome (given a) ≡ answerOutcome a
-unfolding steppedOutcome given answerOutcome
-outcome-given (one t) = refl
-outcome-given none = refl
-outcome-given several = refl
+outcome-answered : (a : Answer) → steppedOutcome (answered a) ≡ answerOutcome a
+unfolding steppedOutcome answered answerOutcome
+outcome-answered (one t) = refl
+outcome-answered none = refl
+outcome-answered several = refl
 
 outcome-found : (b : Bool) (a : Answer) → steppedOutcome (found (cond b crowded (answer a))) ≡ cond b (refusal 15) (answerOutcome a)
 unfolding found steppedOutcome
 outcome-found true a = refl
-outcome-found false a = outcome-given a
+outcome-found false a = outcome-answered a
 
 module _ (t : List ℕ) (I mark X : ℕ) {xs ends notes unions : List ℕ} (r : Ready (tableOf t) xs ends notes unions) where
   abbrev program : Statement

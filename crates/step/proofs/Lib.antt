@@ -4,3 +4,6 @@ pub mod Rows
 pub mod Joins
 pub mod Splits
 pub mod Answers
+pub mod Meaning
+pub mod Ignored
+pub mod Refusals

@@ -3,7 +3,7 @@
 -- inside such a declaration nothing changes; outside one, S counts where the statement emits it free.
 use mathlib.Core.Path.{_≡_, refl, sym, ap, _∙_, subst}
 use mathlib.Core.Logic.{_≢_}
-use mathlib.Core.Bool.{Bool, true, false, cond, not, _&&_, _||_}
+use mathlib.Core.Bool.{Bool, true, false, cond, not, _||_}
 use mathlib.Core.List.{List}
 use Prim.Native.Nat.{ℕ, zero, suc, _+_, _≤_, _<_}
 use native.Mathlib.Omega.{arith}
@@ -12,8 +12,8 @@ use lib.Dec.{eqb, ltb}
 use lib.ListN.{length, getD, set, replicate, length-set}
 use lib.Seq.{getD-set-same, getD-set-other}
 use borrow.Author.Tests.{eq-eqb, ne-eqb, lt-ltb, le-ltb}
-use Rattle.sets.specs.Set.{has, only, _union_, _without_}
-use Rattle.sets.proofs.Booleans.{or-right, or-false}
+use Rattle.sets.specs.Set.{has, only, _union_}
+use Rattle.sets.proofs.Booleans.{or-right, or-false, or-swap}
 use Rattle.sets.proofs.Members.{has-empty, has-union, has-only, has-only-other, has-without-same, has-without-other, ext}
 use Rattle.esterel.specs.Statement.{Statement, nothing, pause, gotopause, emit, exit, signal, present, sequence, parallel, loop, try, size, depth}
 use Rattle.esterel.specs.Stepping.{emittedFree}
@@ -120,10 +120,6 @@ pub record Scanned (S : ℕ) (p : Statement) (at : ℕ) (m l : Met) : Type 0 whe
   pub outside : m .until ≤ at → l .free ≡ (m .free || has (emittedFree p) S)
   pub ends-inside : m .until ≤ at → l .until ≤ at + size p
 
-or-group : (a b c : Bool) → ((a || b) || c) ≡ (a || (b || c))
-or-group true b c = refl
-or-group false b c = refl
-
 -- where a statement that does not emit S free changes nothing
 scanned-same : (S : ℕ) (p : Statement) (at : ℕ) (m l : Met) → has (emittedFree p) S ≡ false → l ≡ m → Scanned S p at m l
 scanned-same S p at m l h e = record {
@@ -218,7 +214,8 @@ module _ (S : ℕ) (xs ends : List ℕ) where
           outside = λ l.
               let low = c .ends-inside (omega arith) in
               ap (λ (z : Met). z .free) e ∙ d .outside low ∙ ap (λ (z : Bool). z || has (emittedFree q) S) (c .outside (omega arith))
-              ∙ or-group (m .free) (has (emittedFree p) S) (has (emittedFree q) S)
+              ∙ sym (or-swap (m .free) false (has (emittedFree p) S) (has (emittedFree q) S))
+              ∙ ap (λ (z : Bool). z || (has (emittedFree p) S || has (emittedFree q) S)) (or-false (m .free))
               ∙ ap (λ (z : Bool). m .free || z) (sym (ap (λ (z : ℕ). has z S) g ∙ has-union (emittedFree p) (emittedFree q) S));
           ends-inside = λ l.
               let low = c .ends-inside (omega arith) in

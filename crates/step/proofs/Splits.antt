@@ -2,18 +2,17 @@
 -- where all signals that it emits free and that are not provided are unknown.
 use mathlib.Core.Path.{_≡_, refl, sym, ap, ap₂, _∙_, subst}
 use mathlib.Core.Logic.{_≢_}
-use mathlib.Core.Bool.{Bool, true, false, cond, not, _&&_}
+use mathlib.Core.Bool.{true}
 use mathlib.Core.List.{List}
-use Prim.Native.Nat.{ℕ, _+_, _≤_, _<_}
+use Prim.Native.Nat.{ℕ, _≤_, _<_}
 use native.Mathlib.Omega.{arith}
 use native.Mathlib.Decide.{decLt}
-use Rattle.sets.specs.Set.{has, only, _union_, _minus_, _without_, Within, Apart, count}
-use Rattle.sets.proofs.Booleans.{and-cases, clash, not-true}
-use Rattle.sets.proofs.Members.{has-minus, has-only-other, has-without-same, apart-union}
-use Rattle.sets.proofs.Counts.{count-within, count-without, count-empty}
+use Rattle.sets.specs.Set.{has, only, _union_, _without_, Within, Apart, count}
+use Rattle.sets.proofs.Members.{has-only-other, apart-union}
+use Rattle.sets.proofs.Counts.{count-without, count-empty}
 use Rattle.esterel.specs.Statement.{Statement}
 use Rattle.esterel.specs.Reactions.{State}
-use Rattle.esterel.specs.Stepping.{Answer, one, none, several, joined, emittedFree, stepping, crowdedFrom}
+use Rattle.esterel.specs.Stepping.{Answer, one, none, several, joined}
 use Rattle.esterel.specs.inner.CappedRows.{cappedRows}
 use Rattle.esterel.specs.inner.Stepping.{Found, crowded, answer, Looked, rowsAnswer}
 use Rattle.esterel.proofs.Conditions.{other}
@@ -24,8 +23,8 @@ use Rattle.lister.specs.inner.Slots.{Slotted}
 use Rattle.step.specs.declared.Stepped.{Stepped}
 use Rattle.step.specs.declared.Stepped.the-variants.{Refused}
 use Rattle.step.specs.Answers.{steppedOutcome}
-use Rattle.step.specs.inner.Looking.{given, found, together, Unknowns, Attempts, Looks}
-use Rattle.step.proofs.Rows.{together-given}
+use Rattle.step.specs.inner.Looking.{answered, found, merged, Unknowns, Attempts, Looks}
+use Rattle.step.proofs.Rows.{merged-answered}
 
 -- ---- the unknown signals
 pub slots-for : {A U : ℕ} → Unknowns A U → Slotted U U
@@ -55,7 +54,7 @@ module _ {A U less : ℕ} (s : ℕ) (h : has U s ≡ true) (e : less ≡ U witho
 
 -- ---- in one list
 pub looks-rows : {a b : List ℕ} {n A U : ℕ} {r : Stepped} (M : ℕ) (p : Statement) (x : State) (I : ℕ) → Slotted M U → Made a b 0 0 (cappedRows M p x A U) n → n ≤ 64
-    → r ≡ given (rowsAnswer M I A U (rows b 0 n)) → Looks p x I A U r
+    → r ≡ answered (rowsAnswer M I A U (rows b 0 n)) → Looks p x I A U r
 unfolding found
 looks-rows {a} {b} {n} {A} {U} {r} M p x I s m h e = record {
   all = answer (rowsAnswer M I A U (rows b 0 n));
@@ -99,14 +98,14 @@ attempts-rows l = record { found = λ z. l; alone = λ z. l }
 
 -- ---- with a signal present and with it absent
 -- the number tells which it is
-number-answer : (a : Answer) → numberOf (steppedOutcome (given a)) ≡ 0
-unfolding numberOf steppedOutcome given
+number-answer : (a : Answer) → numberOf (steppedOutcome (answered a)) ≡ 0
+unfolding numberOf steppedOutcome answered
 number-answer (one t) = refl
 number-answer none = refl
 number-answer several = refl
 
-refusal-last : (a : Answer) → together (given a) (Refused 15) ≡ Refused 15
-unfolding together given
+refusal-last : (a : Answer) → merged (answered a) (Refused 15) ≡ Refused 15
+unfolding merged answered
 refusal-last (one t) = refl
 refusal-last none = refl
 refusal-last several = refl
@@ -128,15 +127,15 @@ module _ {p : Statement} {x : State} {I A U more less w : ℕ} {r : Stepped} (s 
       go crowded d = record { all = crowded; looked = looked-present s h (subst (Looked p x I (A union only s) (U without s)) d looked-more); result = l .result ∙ ap found d }
       go (answer a) d = absurd (n (number (answer a) d ∙ number-answer a))
 
-  pub looks-both : {q t : Stepped} → w ≡ 0 → Looks p x I A less q → t ≡ together r q → Looks p x I A U t
+  pub looks-both : {q t : Stepped} → w ≡ 0 → Looks p x I A less q → t ≡ merged r q → Looks p x I A U t
   unfolding found
   looks-both {q} {t} z m k = go (l .all) refl (m .all) refl
     where
       absent : Looked p x I A (U without s) (m .all)
       absent = subst (λ (y : ℕ). Looked p x I A y (m .all)) e (m .looked)
 
-      result-is : (v y : Found) → l .all ≡ v → m .all ≡ y → t ≡ together (found v) (found y)
-      result-is v y d c = k ∙ ap₂ together (l .result ∙ ap found d) (m .result ∙ ap found c)
+      result-is : (v y : Found) → l .all ≡ v → m .all ≡ y → t ≡ merged (found v) (found y)
+      result-is v y d c = k ∙ ap₂ merged (l .result ∙ ap found d) (m .result ∙ ap found c)
 
       go : (v : Found) → l .all ≡ v → (y : Found) → m .all ≡ y → Looks p x I A U t
       go crowded d y c = absurd (let i = sym z ∙ number crowded d ∙ number-refused in omega arith)
@@ -148,5 +147,5 @@ module _ {p : Statement} {x : State} {I A U more less w : ℕ} {r : Stepped} (s 
       go (answer a) d (answer b) c = record {
         all = answer (joined a b);
         looked = looked-split s h (u .apart s h) (subst (Looked p x I (A union only s) (U without s)) d looked-more) (subst (Looked p x I A (U without s)) c absent);
-        result = result-is (answer a) (answer b) d c ∙ together-given a b;
+        result = result-is (answer a) (answer b) d c ∙ merged-answered a b;
       }

@@ -75,8 +75,8 @@ fn step_with(
             if MOST_FREE < sets::count(free) {
                 return Stepped::Refused(TOO_FREE);
             }
-            let given = provided as u64;
-            let unknown = sets::minus(free, given);
+            let assumed = provided as u64;
+            let unknown = sets::minus(free, assumed);
             let mut limit = MOST_FREE;
             looking::look(
                 nodes,
@@ -84,7 +84,7 @@ fn step_with(
                 notes,
                 unions,
                 provided,
-                given,
+                assumed,
                 unknown,
                 list::state_of(mark, labels),
                 area,

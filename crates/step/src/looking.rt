@@ -15,7 +15,7 @@ ghost use Rattle.area.specs.inner.Layout.{packed};
 ghost use Rattle.area.specs.inner.Area.{rows, Made};
 ghost use Rattle.lister.specs.inner.Notes.{Resumable};
 ghost use Rattle.list.specs.inner.Preparing.{stateIn, Listable};
-ghost use Rattle.step.specs.inner.Looking.{given, together, Unknowns, Attempts, Looks};
+ghost use Rattle.step.specs.inner.Looking.{answered, merged, Unknowns, Attempts, Looks};
 
 // The slots of the members of a set.
 fn slots_in(slotted: u64, set: u64) -> u64
@@ -48,7 +48,7 @@ fn steps(w: u64, slotted: u64, provided: u32, assumed: u64, unknown: u64) -> boo
 
 // The step of a row.
 fn step_of(w: u64, l: u64, provided: u32) -> Stepped
-    ensures { λ r. ⌜ r ≡ given (one (record { assumed = rowAssumed provided (packed w l); reaction = packed w l .reacts })) ⌝ }
+    ensures { λ r. ⌜ r ≡ answered (one (record { assumed = rowAssumed provided (packed w l); reaction = packed w l .reacts })) ⌝ }
 {
     let emitted = area::emitted_in(w) as u32;
     let code = area::code_in(w);
@@ -62,7 +62,7 @@ fn step_of(w: u64, l: u64, provided: u32) -> Stepped
 
 // What two answers come to together; the same reaction found twice is one.
 fn joined(first: Stepped, second: Stepped) -> Stepped
-    ensures { λ r. ⌜ r ≡ together first second ⌝ }
+    ensures { λ r. ⌜ r ≡ merged first second ⌝ }
 {
     match first {
         Stepped::Refused(_) => first,
@@ -118,7 +118,7 @@ fn gather(
     unknown: u64,
 ) -> Stepped
     requires { ⌜ 2 * n ≤ length (now area) ⌝ }
-    ensures { λ r. ⌜ r ≡ given (rowsAnswer slotted provided assumed unknown (rows (now (area .entry)) 0 n)) ⌝ }
+    ensures { λ r. ⌜ r ≡ answered (rowsAnswer slotted provided assumed unknown (rows (now (area .entry)) 0 n)) ⌝ }
 {
     let mut found = Stepped::None;
     let mut i = n;

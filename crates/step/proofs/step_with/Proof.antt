@@ -31,7 +31,7 @@ returns c =
     let at-prepare = at-enum-told .before .before in
     let s = at-prepare .before .before .before .before .before .before .before in
     let ready = at-prepare .prepare .ensures .accepts (at-enum-told .enum-told .given .1) in
-    many-step (s .args .table .now) (s .args .provided) (s .args .mark) (s .args .labels) ready (at-emitted-free .emitted-free .ensures) (at-count .count .ensures) (c .if1 .taken)
+    many-step (s .args .table .now) (s .args .provided) (s .args .mark) (s .args .labels) ready (at-emitted-free .emitted-free .ensures) (at-count .count .ensures) (omega (arith, c .if1 .taken))
 
 minus-requires : tie.Need-minus-requires
 minus-requires c κs = search needs

@@ -14,27 +14,27 @@ use Rattle.step.specs.declared.Stepped.{Stepped}
 use Rattle.step.specs.declared.Stepped.the-variants.{Refused, One, None, Several}
 
 -- the value of the code for an answer, and for what looking comes to
-unfoldable pub given : Answer → Stepped
-given (one t) = One (t .assumed) (t .reaction .emitted) (t .reaction .code) (t .reaction .reached)
-given none = None
-given several = Several
+unfoldable pub answered : Answer → Stepped
+answered (one t) = One (t .assumed) (t .reaction .emitted) (t .reaction .code) (t .reaction .reached)
+answered none = None
+answered several = Several
 
 unfoldable pub found : Found → Stepped
 found crowded = Refused 15
-found (answer a) = given a
+found (answer a) = answered a
 
 -- two of them together; a refusal stays
-unfoldable pub together : Stepped → Stepped → Stepped
-together (Refused w) b = Refused w
-together None b = b
-together Several (Refused w) = Refused w
-together Several (One E O k L) = Several
-together Several None = Several
-together Several Several = Several
-together (One E O k L) (Refused w) = Refused w
-together (One E O k L) None = One E O k L
-together (One E O k L) Several = Several
-together (One E O k L) (One F P m N) = cond (eqb O P && (eqb k m && eqb L N)) (One E O k L) Several
+unfoldable pub merged : Stepped → Stepped → Stepped
+merged (Refused w) b = Refused w
+merged None b = b
+merged Several (Refused w) = Refused w
+merged Several (One E O k L) = Several
+merged Several None = Several
+merged Several Several = Several
+merged (One E O k L) (Refused w) = Refused w
+merged (One E O k L) None = One E O k L
+merged (One E O k L) Several = Several
+merged (One E O k L) (One F P m N) = cond (eqb O P && (eqb k m && eqb L N)) (One E O k L) Several
 
 -- signals that may be unknown beside A: few enough for the slots of a condition, and none of them is in A
 pub record Unknowns (A U : ℕ) : Type 0 where

@@ -1,6 +1,6 @@
 -- The invariant: what was met of each signal in the nodes so far. The measure is the nodes that are left.
 use mathlib.Core.Path.{sym, _∙_}
-use Prim.Native.Nat.{ℕ, _+_, _-_, _≤_}
+use Prim.Native.Nat.{_-_, _≤_}
 use native.Mathlib.Omega.{arith}
 use Rattle.lister.proofs.Starts.{place-few}
 use Rattle.step.proofs.Scanning.{Tracked, first-few, tracked-none, tracked-hidden, tracked-plain, tracked-emit, tracked-signal, tracked-all}

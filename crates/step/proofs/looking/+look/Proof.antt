@@ -31,7 +31,22 @@ abbrev look-below : ℕ → In 6 look-kinds.ps
 look-below t = and 6 look-kinds.ps (falls 6 look-kinds.ps _<_ μ-look t) look.Pre
 
 abbrev claims : ℕ → look-lts.Claims
-claims t = (attempt-reads.Asked, attempt-reads.Learnt, refusal-reads.Asked, refusal-reads.Learnt, least-reads.Asked, least-reads.Learnt, without-reads.Asked, without-reads.Learnt, with-reads.Asked, with-reads.Learnt, look-below t, look.Post, joined-reads.Asked, joined-reads.Learnt)
+claims t = (
+  attempt-reads.Asked,
+  attempt-reads.Learnt,
+  refusal-reads.Asked,
+  refusal-reads.Learnt,
+  least-reads.Asked,
+  least-reads.Learnt,
+  without-reads.Asked,
+  without-reads.Learnt,
+  with-reads.Asked,
+  with-reads.Learnt,
+  look-below t,
+  look.Post,
+  joined-reads.Asked,
+  joined-reads.Learnt,
+)
 
 -- the entry, from where the least of the unknown signals is taken
 module _ (t : ℕ) (c : look-lts.After-least (claims t) (look-at t) look.Post) where
