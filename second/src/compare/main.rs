@@ -102,6 +102,7 @@ fn groups(operation: Operation) -> &'static [Group] {
             ("random programs", stepping::random_programs),
             ("1 to 1,024 sets E", stepping::many_sets),
             ("crowded programs", stepping::crowded_programs),
+            ("around 64 reactions", stepping::around_64),
             ("edges and random tables", stepping::random_tables),
         ],
     }

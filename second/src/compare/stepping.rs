@@ -365,6 +365,38 @@ pub fn crowded_programs(t: &mut Trial, amount: Amount) -> Outcome {
     Ok(())
 }
 
+/// So many ways to go on, by labels from this one on; now and then a signal from S0 to S3 decides
+/// between two neighbours, so that under some E two ways are the same.
+fn ways(random: &mut Random, from: u8, count: u8) -> Statement {
+    let way = |label: u8| match random.below(6) {
+        0 => Present(random.below(4) as u8, Gotopause(label).into(), Gotopause(label + 1).into()),
+        _ => Gotopause(label),
+    };
+    even((from..from + count).map(way).collect(), choice)
+}
+
+/// Programs that have about 64 reactions, under some E a few more and under others a few less, with
+/// one to four signals that are emitted, may be, or never are.
+pub fn around_64(t: &mut Trial, amount: Amount) -> Outcome {
+    let mut random = Random(19);
+    for _ in 0..amount.of(4_000) {
+        let (m, n) = random.pick(&[(8, 8), (5, 13), (7, 9), (6, 11), (8, 9), (7, 10), (6, 12)]);
+        let pairs = parallel(ways(&mut random, 1, m), ways(&mut random, 20, n));
+        let signals = random.between(1, 4) as u8;
+        let emit = |signal| match random.below(3) {
+            0 => Emit(signal),
+            1 => Present(signal, Emit(signal).into(), Nothing.into()),
+            _ => dead(Emit(signal)),
+        };
+        let emits = even((0..signals).map(emit).collect(), parallel);
+        let p = parallel(pairs, emits);
+        let provided = random.next() as u32 & random.next() as u32;
+        t.step(&write(&p), start(provided))?;
+        t.step(&write(&sequence(Pause(63), p)), resumed(provided, u64::MAX))?;
+    }
+    Ok(())
+}
+
 /// A table of depth 60 with lists that need list's largest area, of which no two E's can be looked at
 /// together: made to use as much stack as step can. While a list of 32 reactions is held, one of 64 is
 /// made, and while that is held another, which each E has to itself; exits leave one reaction of these.
