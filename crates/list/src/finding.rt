@@ -20,11 +20,11 @@ ghost use Rattle.list.specs.inner.Preparing.{stateIn, Listable, limited,
 ghost use Rattle.list.specs.inner.Finding.{Copied, answerFor, Finds};
 
 // The words of an area that is never too small.
-const LARGE: usize = 7810;
+pub const LARGE: usize = 7810;
 
 // The rows of a prepared table, as the lister leaves them, or that the area is too small for them; with no signal unknown they are
 // the reactions.
-fn rows_in(
+pub fn rows_in(
     nodes: &[u16; MOST_NODES],
     ends: &[u16; MOST_NODES],
     notes: &[u16; MOST_NODES],
@@ -132,48 +132,6 @@ fn rows_large(
     )
 }
 
-// The rows of a state, in the lent area, or through a larger one where that is too small.
-pub fn rows_of(
-    nodes: &[u16; MOST_NODES],
-    ends: &[u16; MOST_NODES],
-    notes: &[u16; MOST_NODES],
-    unions: &[u64; COUNTS],
-    slotted: u64,
-    assumed: u64,
-    unknown: u64,
-    state: State,
-    area: &mut [u64],
-) -> usize
-    requires { ⌜ (128 ≤ length (now area)) × Listable (now nodes) (now ends) (now notes) (now unions) slotted unknown ⌝ }
-    ensures { λ r. ⌜ Made (now (area .entry)) (now (area .exit)) 0 0 (cappedRows slotted (statementOf (now (nodes .entry))) (stateIn state) assumed unknown) r ⌝ }
-{
-    let n = rows_in(
-        nodes,
-        ends,
-        notes,
-        unions,
-        slotted,
-        assumed,
-        unknown,
-        state,
-        area,
-    );
-    if n <= area::OVER {
-        return n;
-    }
-    rows_large(
-        nodes,
-        ends,
-        notes,
-        unions,
-        slotted,
-        assumed,
-        unknown,
-        state,
-        area,
-    )
-}
-
 // What the lister's number says of a statement: so many reactions, a kind that there is not, or refusal 15.
 fn answer_for(n: usize) -> Answer
     ensures { λ r. ⌜ r ≡ answerFor n ⌝ }
@@ -202,8 +160,11 @@ pub fn reactions(
     ensures { λ r. ⌜ Finds (limited (statementOf (now (nodes .entry))) (stateIn state) assumed) r (now (area .entry)) (now (area .exit)) ⌝ }
 {
     let present = assumed as u64;
-    let n = rows_of(nodes, ends, notes, unions, slotted, present, 0, state, area);
-    answer_for(n)
+    let n = rows_in(nodes, ends, notes, unions, slotted, present, 0, state, area);
+    if n <= area::OVER {
+        return answer_for(n);
+    }
+    answer_for(rows_large(nodes, ends, notes, unions, slotted, present, 0, state, area))
 }
 
 // The reactions of a state of a table, left in front of an area, with room lent for what is prepared.

@@ -9,8 +9,9 @@ mod noting;
 mod preparing;
 mod writing;
 
+pub use finding::LARGE;
 pub use finding::reactions;
-pub use finding::rows_of;
+pub use finding::rows_in;
 use lister::COUNTS;
 pub use preparing::prepare;
 pub use preparing::slotted;

@@ -6,7 +6,7 @@ use mathlib.Core.Bool.{true}
 use mathlib.Core.List.{List}
 use Prim.Native.Nat.{ℕ, _≤_, _<_}
 use native.Mathlib.Omega.{arith}
-use native.Mathlib.Decide.{decLt}
+use lib.ListN.{length}
 use Rattle.sets.specs.Set.{has, only, _union_, _without_, Within, Apart, count}
 use Rattle.sets.proofs.Members.{has-only-other, apart-union}
 use Rattle.sets.proofs.Counts.{count-without, count-empty}
@@ -52,58 +52,75 @@ module _ {A U less : ℕ} (s : ℕ) (h : has U s ≡ true) (e : less ≡ U witho
         (λ S k. has-only-other s S (other U s S (ap (λ (z : ℕ). has z S) (sym e) ∙ k) .0)));
   }
 
--- ---- in one list
-pub looks-rows : {a b : List ℕ} {n A U : ℕ} {r : Stepped} (M : ℕ) (p : Statement) (x : State) (I : ℕ) → Slotted M U → Made a b 0 0 (cappedRows M p x A U) n → n ≤ 64
-    → r ≡ answered (rowsAnswer M I A U (rows b 0 n)) → Looks p x I A U r
-unfolding found
-looks-rows {a} {b} {n} {A} {U} {r} M p x I s m h e = record {
-  all = answer (rowsAnswer M I A U (rows b 0 n));
-  looked = looked-rows M p x I A U (rows b 0 n) (s .within) (m .listed h);
-  result = e;
-}
-
--- given up, with no signal unknown
-pub looks-over : {a b : List ℕ} {n A U : ℕ} (M : ℕ) (p : Statement) (x : State) (I : ℕ) → Made a b 0 0 (cappedRows M p x A U) n → 64 < n → U ≡ 0 → Looks p x I A U (Refused 15)
-unfolding found
-looks-over {a} {b} {n} {A} {U} M p x I m h e = record {
-  all = crowded;
-  looked = subst (λ (z : ℕ). Looked p x I A z crowded) (sym e) (looked-over M p x I A (ap (λ (z : ℕ). cappedRows M p x A z) (sym e) ∙ m .over is-65));
-  result = refl;
-}
-  where
-    is-65 : n ≡ 65
-    is-65 = go (decLt 65 n)
-      where
-        go : Dec (65 < n) → n ≡ 65
-        go (yes l) = absurd (let k = m .cramped l in omega arith)
-        go (no l) = omega arith
-
--- ---- an attempt
-number-refused : numberOf (steppedOutcome (Refused 15)) ≡ 15
-unfolding numberOf steppedOutcome
-number-refused = refl
-
--- with more signals unknown than the limit, so with some
-pub attempts-none : {p : Statement} {x : State} {I A U many : ℕ} (limit : ℕ) → many ≡ count 64 U → limit < many → Attempts p x I A U (Refused 15)
-attempts-none {U = U} {many} limit e h = record {
-  found = λ z. absurd (let n = number-refused in omega arith);
-  alone = λ z. absurd (let c : count 64 U ≡ 0 = ap (count 64) z ∙ count-empty 64 in omega arith);
-}
-
-pub attempts-over : {a b : List ℕ} {n A U : ℕ} (M : ℕ) (p : Statement) (x : State) (I : ℕ) → Made a b 0 0 (cappedRows M p x A U) n → 64 < n → Attempts p x I A U (Refused 15)
-attempts-over M p x I m h = record { found = λ z. absurd (let n = number-refused in omega arith); alone = looks-over M p x I m h }
-
-pub attempts-rows : {p : Statement} {x : State} {I A U : ℕ} {r : Stepped} → Looks p x I A U r → Attempts p x I A U r
-attempts-rows l = record { found = λ z. l; alone = λ z. l }
-
--- ---- with a signal present and with it absent
--- the number tells which it is
+-- ---- the number tells what it is
 number-answer : (a : Answer) → numberOf (steppedOutcome (answered a)) ≡ 0
 unfolding numberOf steppedOutcome answered
 number-answer (one t) = refl
 number-answer none = refl
 number-answer several = refl
 
+number-refused : (w : ℕ) → numberOf (steppedOutcome (Refused w)) ≡ w
+unfolding numberOf steppedOutcome
+number-refused w = refl
+
+-- ---- an attempt
+-- it gave up, or was not tried
+gave-up : {p : Statement} {x : State} {I A U : ℕ} (room : ℕ) → (U ≡ 0 → Looks p x I A U (Refused 15)) → Attempts p x I A U room (Refused 15)
+gave-up room f = record {
+  found = λ z. absurd (let n = number-refused 15 in omega arith);
+  alone = λ z n. f z;
+  ample = λ h e. let n = number-refused 15 in omega arith;
+}
+
+-- with more signals unknown than the limit, so with some
+pub attempts-none : {p : Statement} {x : State} {I A U many : ℕ} (room limit : ℕ) → many ≡ count 64 U → limit < many → Attempts p x I A U room (Refused 15)
+attempts-none {U = U} {many} room limit e h = gave-up room (λ z. absurd (let c : count 64 U ≡ 0 = ap (count 64) z ∙ count-empty 64 in omega arith))
+
+module _ {a b : List ℕ} {n A U : ℕ} (M : ℕ) (p : Statement) (x : State) (I : ℕ) (m : Made a b 0 7810 (cappedRows M p x A U) n) where
+  -- the area was too small, which one of 7810 words is not
+  pub attempts-narrow : 65 < n → Attempts p x I A U (length a) (Refused 66)
+  attempts-narrow h = record {
+    found = λ z. absurd (let n = number-refused 66 in omega arith);
+    alone = λ z n. absurd (n (number-refused 66));
+    ample = λ g e. let c = m .cramped h in omega arith;
+  }
+
+  -- given up, which is 15 with no signal unknown
+  pub attempts-over : n ≡ 65 → Attempts p x I A U (length a) (Refused 15)
+  unfolding found
+  attempts-over h = gave-up (length a) over-alone
+    where
+      over-alone : U ≡ 0 → Looks p x I A U (Refused 15)
+      over-alone e = record {
+        all = crowded;
+        looked = subst (λ (z : ℕ). Looked p x I A z crowded) (sym e) (looked-over M p x I A (ap (λ (z : ℕ). cappedRows M p x A z) (sym e) ∙ m .over h));
+        result = refl;
+      }
+
+  pub attempts-rows : {r : Stepped} → Slotted M U → n ≤ 64 → r ≡ answered (rowsAnswer M I A U (rows b 0 n)) → Attempts p x I A U (length a) r
+  unfolding found
+  attempts-rows {r} s h e = record { found = λ z. looks; alone = λ z k. looks; ample = λ g k. omega (arith, number) }
+    where
+      number : numberOf (steppedOutcome r) ≡ 0
+      number = ap (λ (z : Stepped). numberOf (steppedOutcome z)) e ∙ number-answer (rowsAnswer M I A U (rows b 0 n))
+
+      looks : Looks p x I A U r
+      looks = record {
+        all = answer (rowsAnswer M I A U (rows b 0 n));
+        looked = looked-rows M p x I A U (rows b 0 n) (s .within) (m .listed h);
+        result = e;
+      }
+
+-- the area was not too small
+pub attempts-enough : {p : Statement} {x : State} {I A U room w : ℕ} {r : Stepped} → Attempts p x I A U room r → w ≡ numberOf (steppedOutcome r) → w ≢ 66
+    → Attempts p x I A U 7810 r
+attempts-enough t e n = record { found = t .found; alone = t .alone; ample = λ h f. n (e ∙ f) }
+
+-- what was tried, with one signal unknown or none
+pub attempts-alone : {p : Statement} {x : State} {I A U : ℕ} {r : Stepped} → Attempts p x I A U 7810 r → U ≡ 0 → Looks p x I A U r
+attempts-alone t z = t .alone z (t .ample (omega arith))
+
+-- ---- with a signal present and with it absent
 refusal-last : (a : Answer) → merged (answered a) (Refused 15) ≡ Refused 15
 unfolding merged answered
 refusal-last (one t) = refl
@@ -138,7 +155,7 @@ module _ {p : Statement} {x : State} {I A U more less w : ℕ} {r : Stepped} (s 
       result-is v y d c = k ∙ ap₂ merged (l .result ∙ ap found d) (m .result ∙ ap found c)
 
       go : (v : Found) → l .all ≡ v → (y : Found) → m .all ≡ y → Looks p x I A U t
-      go crowded d y c = absurd (let i = sym z ∙ number crowded d ∙ number-refused in omega arith)
+      go crowded d y c = absurd (let i = sym z ∙ number crowded d ∙ number-refused 15 in omega arith)
       go (answer a) d crowded c = record {
         all = crowded;
         looked = looked-absent s (subst (Looked p x I A (U without s)) c absent);

@@ -11,8 +11,6 @@ use list::Prepared;
 use lister::COUNTS;
 use table::MOST_NODES;
 ghost use mathlib.Core.Path.{_≡_};
-ghost use Prim.Native.Nat.{_≤_};
-ghost use lib.ListN.{length};
 ghost use Rattle.table.specs.Outcomes.{numberOf};
 ghost use Rattle.list.specs.inner.Preparing.{Rooms};
 ghost use Rattle.step.specs.Answers.{stepOf, steppedOutcome};
@@ -52,7 +50,7 @@ pub fn refusal(answer: Stepped) -> u8
     }
 }
 
-// Step, with room lent for the nodes, what is noted of them, and rows.
+// Step, with room lent for the nodes and what is noted of them.
 fn step_with(
     table: &[u8],
     provided: u32,
@@ -62,9 +60,8 @@ fn step_with(
     ends: &mut [u16; MOST_NODES],
     notes: &mut [u16; MOST_NODES],
     unions: &mut [u64; COUNTS],
-    area: &mut [u64],
 ) -> Stepped
-    requires { ⌜ (128 ≤ length (now area)) × Rooms (now nodes) (now ends) (now notes) (now unions) ⌝ }
+    requires { ⌜ Rooms (now nodes) (now ends) (now notes) (now unions) ⌝ }
     ensures { λ r. ⌜ steppedOutcome r ≡ stepOf (now (table .entry)) provided mark labels ⌝ }
 {
     let prepared = list::prepare(table, nodes, ends, notes, unions);
@@ -87,7 +84,6 @@ fn step_with(
                 assumed,
                 unknown,
                 list::state_of(mark, labels),
-                area,
                 &mut limit,
             )
         }
@@ -102,7 +98,6 @@ pub fn step(table: &[u8], provided: u32, mark: u32, labels: u64) -> Stepped
     let mut ends = [0u16; MOST_NODES];
     let mut notes = [0u16; MOST_NODES];
     let mut unions = [0u64; COUNTS];
-    let mut area = [0u64; list::SMALL];
     step_with(
         table,
         provided,
@@ -112,6 +107,5 @@ pub fn step(table: &[u8], provided: u32, mark: u32, labels: u64) -> Stepped
         &mut ends,
         &mut notes,
         &mut unions,
-        &mut area,
     )
 }

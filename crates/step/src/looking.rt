@@ -17,6 +17,9 @@ ghost use Rattle.lister.specs.inner.Notes.{Resumable};
 ghost use Rattle.list.specs.inner.Preparing.{stateIn, Listable};
 ghost use Rattle.step.specs.inner.Looking.{answered, merged, Unknowns, Attempts, Looks};
 
+// What stands for a refusal where an area is too small: no refusal has this number.
+const NARROW: u8 = 66;
+
 // The slots of the members of a set.
 fn slots_in(slotted: u64, set: u64) -> u64
     ensures { λ r. ⌜ r ≡ seen slotted set ⌝ }
@@ -144,9 +147,9 @@ fn limit_after(many: u8, n: usize) -> u8
     if n <= area::MOST / 2 { many + 1 } else { many }
 }
 
-// The steps under the sets that agree with `assumed` outside `unknown`, from one list of rows; 15 where that gives up, or where more
-// signals are unknown than `limit`, so that it would be tried in vain.
-fn attempt(
+// The steps under the sets that agree with `assumed` outside `unknown`, from one list of rows in a lent area. 15 where that gives up, or
+// where more signals are unknown than `limit`, so that it would be tried in vain; NARROW where the area is too small.
+fn attempt_in(
     nodes: &[u16; MOST_NODES],
     ends: &[u16; MOST_NODES],
     notes: &[u16; MOST_NODES],
@@ -158,15 +161,15 @@ fn attempt(
     area: &mut [u64],
     limit: &mut u8,
 ) -> Stepped
-    requires { ⌜ (128 ≤ length (now area)) × Resumable (now nodes) (now ends) (now notes) (now unions) 0 × Unknowns assumed unknown ⌝ }
-    ensures { λ r. ⌜ Attempts (statementOf (now (nodes .entry))) (stateIn state) provided assumed unknown r ⌝ }
+    requires { ⌜ Resumable (now nodes) (now ends) (now notes) (now unions) 0 × Unknowns assumed unknown ⌝ }
+    ensures { λ r. ⌜ Attempts (statementOf (now (nodes .entry))) (stateIn state) provided assumed unknown (length (now (area .entry))) r ⌝ }
 {
     let many = sets::count(unknown);
     if *limit < many {
         return Stepped::Refused(list::CROWDED);
     }
     let slotted = list::slotted(nodes, ends, notes, unknown);
-    let n = list::rows_of(
+    let n = list::rows_in(
         nodes,
         ends,
         notes,
@@ -177,6 +180,9 @@ fn attempt(
         state,
         area,
     );
+    if area::OVER < n {
+        return Stepped::Refused(NARROW);
+    }
     *limit = limit_after(many, n);
     if area::MOST < n {
         return Stepped::Refused(list::CROWDED);
@@ -184,9 +190,69 @@ fn attempt(
     gather(area, n, slotted, provided, assumed, unknown)
 }
 
+// The same in an area that most lists have room in, and in one that is never too small.
+fn attempt(
+    nodes: &[u16; MOST_NODES],
+    ends: &[u16; MOST_NODES],
+    notes: &[u16; MOST_NODES],
+    unions: &[u64; COUNTS],
+    provided: u32,
+    assumed: u64,
+    unknown: u64,
+    state: State,
+    limit: &mut u8,
+) -> Stepped
+    requires { ⌜ Resumable (now nodes) (now ends) (now notes) (now unions) 0 × Unknowns assumed unknown ⌝ }
+    ensures { λ r. ⌜ Attempts (statementOf (now (nodes .entry))) (stateIn state) provided assumed unknown 272 r ⌝ }
+{
+    let mut area = [0u64; list::SMALL];
+    attempt_in(
+        nodes,
+        ends,
+        notes,
+        unions,
+        provided,
+        assumed,
+        unknown,
+        state,
+        &mut area,
+        limit,
+    )
+}
+
+fn attempt_large(
+    nodes: &[u16; MOST_NODES],
+    ends: &[u16; MOST_NODES],
+    notes: &[u16; MOST_NODES],
+    unions: &[u64; COUNTS],
+    provided: u32,
+    assumed: u64,
+    unknown: u64,
+    state: State,
+    limit: &mut u8,
+) -> Stepped
+    requires { ⌜ Resumable (now nodes) (now ends) (now notes) (now unions) 0 × Unknowns assumed unknown ⌝ }
+    ensures { λ r. ⌜ Attempts (statementOf (now (nodes .entry))) (stateIn state) provided assumed unknown 7810 r ⌝ }
+{
+    let mut area = [0u64; list::LARGE];
+    attempt_in(
+        nodes,
+        ends,
+        notes,
+        unions,
+        provided,
+        assumed,
+        unknown,
+        state,
+        &mut area,
+        limit,
+    )
+}
+
 // The steps under the sets that agree with `assumed` outside `unknown`: from one list of rows, or, where that gives up, with one
 // of the unknown signals present and with it absent. Under one set alone giving up is refusal 15. Neighbours give up alike, so
-// `limit` goes on from one to the next; it changes no answer.
+// `limit` goes on from one to the next; it changes no answer. The large area is asked for here, since the compiler keeps it out of
+// the frame of a function that calls itself.
 pub fn look(
     nodes: &[u16; MOST_NODES],
     ends: &[u16; MOST_NODES],
@@ -196,13 +262,12 @@ pub fn look(
     assumed: u64,
     unknown: u64,
     state: State,
-    area: &mut [u64],
     limit: &mut u8,
 ) -> Stepped
-    requires { ⌜ (128 ≤ length (now area)) × Resumable (now nodes) (now ends) (now notes) (now unions) 0 × Unknowns assumed unknown ⌝ }
+    requires { ⌜ Resumable (now nodes) (now ends) (now notes) (now unions) 0 × Unknowns assumed unknown ⌝ }
     ensures { λ r. ⌜ Looks (statementOf (now (nodes .entry))) (stateIn state) provided assumed unknown r ⌝ }
 {
-    let found = attempt(
+    let mut found = attempt(
         nodes,
         ends,
         notes,
@@ -211,9 +276,21 @@ pub fn look(
         assumed,
         unknown,
         state,
-        area,
         limit,
     );
+    if crate::refusal(found) == NARROW {
+        found = attempt_large(
+            nodes,
+            ends,
+            notes,
+            unions,
+            provided,
+            assumed,
+            unknown,
+            state,
+            limit,
+        );
+    }
     if crate::refusal(found) == 0 {
         return found;
     }
@@ -231,7 +308,6 @@ pub fn look(
         sets::with(assumed, signal),
         rest,
         state,
-        area,
         limit,
     );
     if crate::refusal(present) != 0 {
@@ -246,7 +322,6 @@ pub fn look(
         assumed,
         rest,
         state,
-        area,
         limit,
     );
     joined(present, absent)

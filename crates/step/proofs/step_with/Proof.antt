@@ -29,7 +29,7 @@ returns c =
     let at-emitted-free = at-count .before in
     let at-enum-told = at-emitted-free .before .before .before in
     let at-prepare = at-enum-told .before .before in
-    let s = at-prepare .before .before .before .before .before .before .before in
+    let s = at-prepare .before .before .before .before .before .before in
     let ready = at-prepare .prepare .ensures .accepts (at-enum-told .enum-told .given .1) in
     many-step (s .args .table .now) (s .args .provided) (s .args .mark) (s .args .labels) ready (at-emitted-free .emitted-free .ensures) (at-count .count .ensures) (omega (arith, c .if1 .taken))
 
@@ -41,15 +41,14 @@ state-of-requires c κs = search needs
 
 look-requires : tie.Need-look-requires
 look-requires c κs =
-    let at-state-of = c .before .before in
+    let at-state-of = c .before in
     let at-minus = at-state-of .before .before .before .before .before in
     let at-count = at-minus .before .before in
     let at-emitted-free = at-count .before in
     let at-enum-told = at-emitted-free .before .before .before in
     let at-prepare = at-enum-told .before .before in
-    let s = at-prepare .before .before .before .before .before .before .before in
+    let s = at-prepare .before .before .before .before .before .before in
     let ready = at-prepare .prepare .ensures .accepts (at-enum-told .enum-told .given .1) in (
-      s .pre .0,
       ready .noted,
       few-unknown (s .args .table .now) (s .args .provided) (s .args .mark) (s .args .labels) ready
           (at-emitted-free .emitted-free .ensures) (at-count .count .ensures) (at-minus .minus .ensures) (omega (arith, at-minus .before .if1 .left)),
@@ -59,25 +58,21 @@ returns-2 : tie.Need-returns-2
 returns-2 c =
     let at-prepared = c .before in
     let at-prepare = at-prepared .before .before in
-    let s = at-prepare .before .before .before .before .before .before .before in
+    let s = at-prepare .before .before .before .before .before .before in
     unready-step (s .args .table .now) (s .args .provided) (s .args .mark) (s .args .labels) (at-prepare .prepare .ensures .refuses _ (at-prepared .prepared .given .1))
-
-same-length : tie.Need-same-length
-same-length c = search needs
 
 returns-3 : tie.Need-returns-3
 returns-3 c =
-    let at-look = c .before .before in
-    let at-state-of = at-look .before .before .before in
+    let at-state-of = c .before .before in
     let at-minus = at-state-of .before .before .before .before .before in
     let at-count = at-minus .before .before in
     let at-emitted-free = at-count .before in
     let at-enum-told = at-emitted-free .before .before .before in
     let at-prepare = at-enum-told .before .before in
-    let s = at-prepare .before .before .before .before .before .before .before in
+    let s = at-prepare .before .before .before .before .before .before in
     let ready = at-prepare .prepare .ensures .accepts (at-enum-told .enum-told .given .1) in
     looked-step (s .args .table .now) (s .args .provided) (s .args .mark) (s .args .labels) ready (at-emitted-free .emitted-free .ensures) (at-count .count .ensures)
-    (at-minus .minus .ensures) (omega (arith, at-minus .before .if1 .left)) (at-state-of .state-of .ensures) (at-look .look .ensures)
+    (at-minus .minus .ensures) (omega (arith, at-minus .before .if1 .left)) (at-state-of .state-of .ensures) (c .look .ensures)
 
 pub step-with-spec : {M : Type 1} → statement M
 step-with-spec =
@@ -93,5 +88,4 @@ step-with-spec =
     state-of-requires
     look-requires
     returns-2
-    same-length
     returns-3)

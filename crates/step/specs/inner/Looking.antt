@@ -1,5 +1,6 @@
 -- What the functions that look for steps leave to each other.
 use mathlib.Core.Path.{_≡_}
+use mathlib.Core.Logic.{_≢_}
 use mathlib.Core.Bool.{true, cond, _&&_}
 use Prim.Native.Nat.{ℕ, _≤_, _<_}
 use lib.Dec.{eqb}
@@ -48,7 +49,9 @@ pub record Looks (p : Statement) (x : State) (I A U : ℕ) (r : Stepped) : Type 
   pub looked : Looked p x I A U all
   pub result : r ≡ found all
 
--- and so it is of one list of rows, but for a refusal where signals are unknown, which says nothing
-pub record Attempts (p : Statement) (x : State) (I A U : ℕ) (r : Stepped) : Type 0 where
+-- and so it is of one list of rows in an area of so many words, but for a refusal where signals are unknown, which says nothing, and for 66,
+-- which says that the area is too small
+pub record Attempts (p : Statement) (x : State) (I A U room : ℕ) (r : Stepped) : Type 0 where
   pub found : numberOf (steppedOutcome r) ≡ 0 → Looks p x I A U r
-  pub alone : U ≡ 0 → Looks p x I A U r
+  pub alone : U ≡ 0 → numberOf (steppedOutcome r) ≢ 66 → Looks p x I A U r
+  pub ample : 7810 ≤ room → numberOf (steppedOutcome r) ≢ 66
