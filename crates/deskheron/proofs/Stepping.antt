@@ -25,7 +25,7 @@ use Rattle.table.specs.Reading.{Table, refused, holds, tableOf}
 use Rattle.table.specs.Writing.{write}
 use Rattle.table.proofs.Refusals.{table-refusals}
 use Rattle.list.specs.Answers.{stateOf}
-use Rattle.step.specs.Answers.{answerOutcome, stepFor, stepIn, stepOf}
+use Rattle.step.specs.Answers.{steppingOutcome, stepFor, stepIn, stepOf}
 use Rattle.step.proofs.Meaning.{answers-mean, meant-answered}
 use Rattle.deskheron.specs.Demand.{Marked, AnswersByTheRules, StepsByTheRules, TrimmedStepsTheSame}
 use Rattle.deskheron.proofs.Trimmed.{state-is, held, levels, reads}
@@ -35,23 +35,23 @@ data Tested (p : Statement) (x : State) (I : ℕ) : Outcome → Type 0 where
   nested : ltb 12 (nesting p) ≡ true → Tested p x I (refusal 14)
   many : manyFree p ≡ true → ltb 12 (nesting p) ≡ false → Tested p x I (refusal 17)
   crowds : manyFree p ≡ false → ltb 12 (nesting p) ≡ false → Tested p x I (refusal 15)
-  answers : manyFree p ≡ false → ltb 12 (nesting p) ≡ false → Tested p x I (answerOutcome (stepping p x I))
+  answers : manyFree p ≡ false → ltb 12 (nesting p) ≡ false → Tested p x I (steppingOutcome (stepping p x I))
 
 tested : (p : Statement) (x : State) (I : ℕ) → Tested p x I (stepFor p x I)
 unfolding stepFor
 tested p x I =
     by-cond (Tested p x I) (ltb 12 (nesting p)) (refusal 14) after nested
     (λ s. by-cond (Tested p x I) (manyFree p) (refusal 17) last (λ f. many f s)
-    (λ f. by-cond (Tested p x I) (crowdedFrom p x I) (refusal 15) (answerOutcome (stepping p x I)) (λ c. crowds f s) (λ c. answers f s)))
+    (λ f. by-cond (Tested p x I) (crowdedFrom p x I) (refusal 15) (steppingOutcome (stepping p x I)) (λ c. crowds f s) (λ c. answers f s)))
   where
     last : Outcome
-    last = cond (crowdedFrom p x I) (refusal 15) (answerOutcome (stepping p x I))
+    last = cond (crowdedFrom p x I) (refusal 15) (steppingOutcome (stepping p x I))
 
     after : Outcome
     after = cond (manyFree p) (refusal 17) last
 
-number-answer : (a : Answer) → numberOf (answerOutcome a) ≡ 0
-unfolding numberOf answerOutcome
+number-answer : (a : Answer) → numberOf (steppingOutcome a) ≡ 0
+unfolding numberOf steppingOutcome
 number-answer (one t) = refl
 number-answer none = refl
 number-answer several = refl
@@ -95,7 +95,7 @@ module _ (t : List ℕ) (n : ℕ) (p : Statement) (h : tableOf t ≡ holds n p) 
   free = valid-free 0 p (held t n p h .valid)
 
   -- in the state that the call is for
-  step-values : (x : State) (I mark X : ℕ) → Marked x mark X → (vs : List ℕ) → stepOf t I mark X ≡ values vs → answerOutcome (stepping p x I) ≡ values vs
+  step-values : (x : State) (I mark X : ℕ) → Marked x mark X → (vs : List ℕ) → stepOf t I mark X ≡ values vs → steppingOutcome (stepping p x I) ≡ values vs
   step-values x I mark X m vs e =
       let right = subst (λ (y : State). IsAnswer p y I (stepping p x I)) (sym (state-is x mark X m)) (stepping-is p x I free) in
       meant-answered t I mark X vs e n p h (stepping p x I) right
@@ -122,7 +122,7 @@ module _ (t : List ℕ) (s : ℕ) (p : Statement) (h : tableOf t ≡ holds s p) 
       let a = step-values t s p h x I m X f vs e in
       let b = step-values u s′ q hu x I n Y g ws k in
       let same = same-steps p (levels t s p h) (free t s p h) ts run x state I in
-      let z : values vs ≡ values ws = sym a ∙ ap answerOutcome same ∙ b in
+      let z : values vs ≡ values ws = sym a ∙ ap steppingOutcome same ∙ b in
       cc
 
   no-more-refused : (I m X J n Y : ℕ) → numberOf (stepOf t I m X) ≢ 14

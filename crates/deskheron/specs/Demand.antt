@@ -20,7 +20,7 @@ use Rattle.table.specs.Writing.{write}
 use Rattle.trim.specs.Answers.{trimOf, bufferOf}
 use Rattle.list.specs.Answers.{Listing, listOf, listingOutcome, written}
 use Rattle.list.specs.Buffers.{emittedIn, codeIn, reachedIn, front, spread}
-use Rattle.step.specs.Answers.{answerOutcome, stepOf}
+use Rattle.step.specs.Answers.{steppingOutcome, stepOf}
 
 -- ---- The state that a call is for
 
@@ -124,7 +124,7 @@ ThirdDemand = (t : List ℕ) (n : ℕ) (p : Statement) → tableOf t ≡ holds n
 pub record AnswersByTheRules (t : List ℕ) (p : Statement) : Type 0 where
   -- 1. In every state, from every provided set I: where step does not refuse t, its values are those of the answer that the rules give.
   pub answers : (x : State) (I m X : ℕ) → Marked x m X → (vs : List ℕ) → stepOf t I m X ≡ values vs
-      → (a : Answer) × (answerOutcome a ≡ values vs) × IsAnswer p x I a
+      → (a : Answer) × (steppingOutcome a ≡ values vs) × IsAnswer p x I a
   -- 2. Each step has its O within I joined with the signals that are emitted outside a declaration of them, and so its E among those
   --    that are looked at.
   pub looked : (x : State) (I : ℕ) (r : Step) → StepFrom p x I r

@@ -16,7 +16,7 @@ use Rattle.esterel.specs.Reactions.{State, Reaction}
 use Rattle.esterel.specs.Runs.{Step}
 use Rattle.esterel.specs.Listing.{Listed, listing}
 use Rattle.esterel.specs.Listing as listing
-use Rattle.esterel.specs.Stepping.{StepFrom, Answer, Says, emittedFree, signals, lookedAt, joined, stepping, crowdedFrom}
+use Rattle.esterel.specs.Stepping.{StepFrom, Answer, Says, emittedFree, signals, lookedAt, combined, stepping, crowdedFrom}
 use Rattle.esterel.specs.inner.Conditions.{seen, holds}
 use Rattle.esterel.specs.inner.Rows.{Row, Agree}
 use Rattle.esterel.specs.inner.CappedRows.{reactionsIn, cappedRows}
@@ -26,7 +26,7 @@ use Rattle.esterel.proofs.Listing.{list-is-listing}
 use Rattle.esterel.proofs.Needed.{some-in, some-out}
 use Rattle.esterel.proofs.Unknown.{AreRows, of-members}
 use Rattle.esterel.proofs.CappedRows.{capped-rows-are, capped-rows-quiet, capped-rows-exact}
-use Rattle.esterel.proofs.Stepping.{FreeSignals, From, says-as, says-joined, says-if, same-step, answer-unique, made-agree, step-agrees, stepping-is}
+use Rattle.esterel.proofs.Stepping.{FreeSignals, From, says-as, says-combined, says-if, same-step, answer-unique, made-agree, step-agrees, stepping-is}
 
 -- ---- agreement outside U as a test
 
@@ -75,10 +75,10 @@ module _ {p : Statement} {x : State} {I A U : ℕ} (s : ℕ) where
 
   -- every set that agrees with A has s or has it not
   pub looked-split : {a b : Answer} → has U s ≡ true → has A s ≡ false
-      → Looked p x I (A union only s) (U without s) (answer a) → Looked p x I A (U without s) (answer b) → Looked p x I A U (answer (joined a b))
+      → Looked p x I (A union only s) (U without s) (answer a) → Looked p x I A (U without s) (answer b) → Looked p x I A U (answer (combined a b))
   looked-split u n (within a h q) (within b k r) =
-      within (joined a b) (says-as (joined a b) (λ t. (together t, λ m. apart t m (has (t .assumed) s) refl))
-      (says-joined I (λ t m. m .from .joined) (λ t m. m .from .joined) a b h k)) (λ E m. quiet E m (has E s) refl)
+      within (combined a b) (says-as (combined a b) (λ t. (together t, λ m. apart t m (has (t .assumed) s) refl))
+      (says-combined I (λ t m. m .from .joined) (λ t m. m .from .joined) a b h k)) (λ E m. quiet E m (has E s) refl)
     where
       With : Step → Type 0
       With = StepAmong p x I (A union only s) (U without s)
@@ -115,8 +115,8 @@ rows-says : (M I A U : ℕ) (ws : List Row) → Says (rowsAnswer M I A U ws) (Of
 unfolding rowsAnswer rowAnswer Says
 rows-says M I A U [] = λ t h. h .1
 rows-says M I A U (w ∷ ws) =
-    says-as (joined (rowAnswer M I A U w) (rowsAnswer M I A U ws)) (λ t. (together t, apart t))
-    (says-joined I (λ t h. of-row-from M I A U (w ∷ ws) t (w, inl refl, h .0, h .1)) (of-row-from M I A U ws) (rowAnswer M I A U w) (rowsAnswer M I A U ws)
+    says-as (combined (rowAnswer M I A U w) (rowsAnswer M I A U ws)) (λ t. (together t, apart t))
+    (says-combined I (λ t h. of-row-from M I A U (w ∷ ws) t (w, inl refl, h .0, h .1)) (of-row-from M I A U ws) (rowAnswer M I A U w) (rowsAnswer M I A U ws)
     (says-if (rowSteps M I A U w) (rowStep I w)) (rows-says M I A U ws))
   where
     Here : Step → Type 0

@@ -15,7 +15,7 @@ use Rattle.esterel.specs.Codes.{codeOf, through}
 use Rattle.esterel.specs.Reactions.{start, reachedTogether}
 use Rattle.esterel.specs.Runs.{Step}
 use Rattle.esterel.specs.Listing.{Listed, reaction, before, insert, sorted, each, hide, follow, pair, together, caught, list, listing, request, needs, someEnds, own, child, some, crowdedWithin, crowded}
-use Rattle.esterel.specs.Stepping.{one, none, several, emittedFree, madeOf, lookedAt, same, joined, answerUnder, answerAmong, stepping, manyFree, crowdedFrom}
+use Rattle.esterel.specs.Stepping.{one, none, several, emittedFree, madeOf, lookedAt, same, combined, answerUnder, answerAmong, stepping, manyFree, crowdedFrom}
 use Rattle.esterel.proofs.Needed.{some-in, crowded-iff}
 
 -- ---- the sets that are looked at, where no signal of n or above is emitted
@@ -53,34 +53,34 @@ step E O k = record { assumed = E; reaction = reaction O k 0 }
 
 -- what is emitted need not be provided, and may be
 pub emitted : stepping (emit 0) start 0 ≡ one (step (only 0) (only 0) 0)
-unfolding answerAmong answerUnder joined same madeOf emittedFree listing list has only _union_ _minus_
+unfolding answerAmong answerUnder combined same madeOf emittedFree listing list has only _union_ _minus_
 emitted = answer-over (emit 0) 0 (madeOf 1 0 (only 0)) (looked-one (emit 0) 0 refl)
 
 pub provided : stepping (emit 0) start (only 0) ≡ one (step (only 0) (only 0) 0)
-unfolding answerAmong answerUnder joined same madeOf emittedFree listing list has only _union_ _minus_
+unfolding answerAmong answerUnder combined same madeOf emittedFree listing list has only _union_ _minus_
 provided = answer-over (emit 0) (only 0) (madeOf 1 (only 0) (only 0)) (looked-one (emit 0) (only 0) refl)
 
 -- emitted where it is present: with it and without it, unless it is provided
 pub causes-itself : stepping (present 0 (emit 0) nothing) start 0 ≡ several
-unfolding answerAmong answerUnder joined same madeOf emittedFree listing list has only _union_ _minus_
+unfolding answerAmong answerUnder combined same madeOf emittedFree listing list has only _union_ _minus_
 causes-itself = answer-over (present 0 (emit 0) nothing) 0 (madeOf 1 0 (only 0)) (looked-one (present 0 (emit 0) nothing) 0 refl)
 
 pub caused : stepping (present 0 (emit 0) nothing) start (only 0) ≡ one (step (only 0) (only 0) 0)
-unfolding answerAmong answerUnder joined same madeOf emittedFree listing list has only _union_ _minus_
+unfolding answerAmong answerUnder combined same madeOf emittedFree listing list has only _union_ _minus_
 caused = answer-over (present 0 (emit 0) nothing) (only 0) (madeOf 1 (only 0) (only 0)) (looked-one (present 0 (emit 0) nothing) (only 0) refl)
 
 -- emitted where it is absent: neither with it nor without it, unless it is provided
 pub prevents-itself : stepping (present 0 nothing (emit 0)) start 0 ≡ none
-unfolding answerAmong answerUnder joined same madeOf emittedFree listing list has only _union_ _minus_
+unfolding answerAmong answerUnder combined same madeOf emittedFree listing list has only _union_ _minus_
 prevents-itself = answer-over (present 0 nothing (emit 0)) 0 (madeOf 1 0 (only 0)) (looked-one (present 0 nothing (emit 0)) 0 refl)
 
 pub prevented : stepping (present 0 nothing (emit 0)) start (only 0) ≡ one (step (only 0) 0 0)
-unfolding answerAmong answerUnder joined same madeOf emittedFree listing list has only _union_ _minus_
+unfolding answerAmong answerUnder combined same madeOf emittedFree listing list has only _union_ _minus_
 prevented = answer-over (present 0 nothing (emit 0)) (only 0) (madeOf 1 (only 0) (only 0)) (looked-one (present 0 nothing (emit 0)) (only 0) refl)
 
 -- a reaction that two derivations give is one
 pub derived-twice : stepping (signal 0 (present 0 (emit 0) nothing)) start 0 ≡ one (step 0 0 0)
-unfolding answerAmong answerUnder joined same madeOf emittedFree listing list sorted insert before each hide has only _union_ _minus_
+unfolding answerAmong answerUnder combined same madeOf emittedFree listing list sorted insert before each hide has only _union_ _minus_
 derived-twice = answer-over (signal 0 (present 0 (emit 0) nothing)) 0 (madeOf 0 0 0) (looked-none (signal 0 (present 0 (emit 0) nothing)) 0 refl)
 
 -- ---- signals emitted outside a declaration of them
@@ -140,5 +140,5 @@ unfolding unreached crowded crowdedWithin needs someEnds some list sorted insert
 not-due-there = refl
 
 pub though-one : stepping unreached start 0 ≡ one (step 0 0 0)
-unfolding answerAmong answerUnder joined same madeOf emittedFree listing list sorted insert before each hide follow together caught pair reachedTogether codeOf through unreached choices choice has only _union_ _minus_
+unfolding answerAmong answerUnder combined same madeOf emittedFree listing list sorted insert before each hide follow together caught pair reachedTogether codeOf through unreached choices choice has only _union_ _minus_
 though-one = answer-over unreached 0 (madeOf 1 0 (only 0)) (looked-one unreached 0 refl)

@@ -15,7 +15,7 @@ use Rattle.esterel.specs.Statement.{Statement}
 use Rattle.esterel.specs.Reactions.{State, Reaction, Reacts}
 use Rattle.esterel.specs.Runs.{Step}
 use Rattle.esterel.specs.Listing.{Listed, list, listing}
-use Rattle.esterel.specs.Stepping.{StepFrom, Answer, one, none, several, Says, IsAnswer, emittedFree, madeOf, signals, lookedAt, same, joined, answerUnder, answerAmong, stepping}
+use Rattle.esterel.specs.Stepping.{StepFrom, Answer, one, none, several, Says, IsAnswer, emittedFree, madeOf, signals, lookedAt, same, combined, answerUnder, answerAmong, stepping}
 use Rattle.esterel.specs.inner.Rows.{Agree}
 use Rattle.esterel.proofs.Conditions.{either, in-left, in-right, union-within-both}
 use Rattle.esterel.proofs.Emitting.{emitted-free}
@@ -60,21 +60,21 @@ same-self r = rw (eqb-same (r .emitted), eqb-same (r .code), eqb-same (r .reache
 abbrev pub From : ℕ → (Step → Type 0) → Type 0
 From I P = (t : Step) → P t → t .assumed ≡ I union t .reaction .emitted
 
-pub says-joined : {P Q : Step → Type 0} (I : ℕ) → From I P → From I Q → (a b : Answer) → Says a P → Says b Q → Says (joined a b) (λ t. P t ⊎ Q t)
-unfolding Says joined
-says-joined {P} {Q} I f g none b h k = says-as b (λ t. (λ m. inr m, λ m. second t m)) k
+pub says-combined : {P Q : Step → Type 0} (I : ℕ) → From I P → From I Q → (a b : Answer) → Says a P → Says b Q → Says (combined a b) (λ t. P t ⊎ Q t)
+unfolding Says combined
+says-combined {P} {Q} I f g none b h k = says-as b (λ t. (λ m. inr m, λ m. second t m)) k
   where
     second : (t : Step) → P t ⊎ Q t → Q t
     second t (inl m) = absurd (h t m)
     second t (inr m) = m
-says-joined I f g several b (t, u, h, l, n) k = (t, u, inl h, inl l, n)
-says-joined {P} {Q} I f g (one t) none h k = says-as (one t) (λ u. (λ m. inl m, λ m. first u m)) h
+says-combined I f g several b (t, u, h, l, n) k = (t, u, inl h, inl l, n)
+says-combined {P} {Q} I f g (one t) none h k = says-as (one t) (λ u. (λ m. inl m, λ m. first u m)) h
   where
     first : (u : Step) → P u ⊎ Q u → P u
     first u (inl m) = m
     first u (inr m) = absurd (k u m)
-says-joined I f g (one t) several h (u, v, k, l, n) = (u, v, inr k, inr l, n)
-says-joined {P} {Q} I f g (one t) (one u) (h, m) (k, n) =
+says-combined I f g (one t) several h (u, v, k, l, n) = (u, v, inr k, inr l, n)
+says-combined {P} {Q} I f g (one t) (one u) (h, m) (k, n) =
     by-cond (λ a. Says a (λ v. P v ⊎ Q v)) (same (t .reaction) (u .reaction)) (one t) several
     (λ e. let d = equal (same-yes (t .reaction) (u .reaction) e) in (inl h, λ v i. only-one d v i))
     (λ e. (t, u, inl h, inr k, λ d. clash (subst (λ (v : Step). same (t .reaction) (v .reaction) ≡ true) d (same-self (t .reaction))) e))
@@ -223,8 +223,8 @@ under-says : (I E : ℕ) (ts : List Reaction) → Says (answerUnder I E ts) (Und
 unfolding answerUnder Says
 under-says I E [] = λ t h. h .2
 under-says I E (r ∷ ts) =
-    says-as (joined (cond (eqb E (I union r .emitted)) (one here) none) (answerUnder I E ts)) (λ t. (together t, apart t))
-    (says-joined I (λ t h. from t h) (under-from I E ts) (cond (eqb E (I union r .emitted)) (one here) none) (answerUnder I E ts)
+    says-as (combined (cond (eqb E (I union r .emitted)) (one here) none) (answerUnder I E ts)) (λ t. (together t, apart t))
+    (says-combined I (λ t h. from t h) (under-from I E ts) (cond (eqb E (I union r .emitted)) (one here) none) (answerUnder I E ts)
     (says-if (eqb E (I union r .emitted)) here) (under-says I E ts))
   where
     here : Step
@@ -252,8 +252,8 @@ among-says : (p : Statement) (x : State) (I : ℕ) (Es : List ℕ) → Says (ans
 unfolding answerAmong listing Says
 among-says p x I [] = λ t h. h .0
 among-says p x I (E ∷ Es) =
-    says-as (joined (answerUnder I E (list p x E)) (answerAmong p x I Es)) (λ t. (together t, apart t))
-    (says-joined I (under-from I E (list p x E)) (λ t h. h .1 .joined) (answerUnder I E (list p x E)) (answerAmong p x I Es)
+    says-as (combined (answerUnder I E (list p x E)) (answerAmong p x I Es)) (λ t. (together t, apart t))
+    (says-combined I (under-from I E (list p x E)) (λ t h. h .1 .joined) (answerUnder I E (list p x E)) (answerAmong p x I Es)
     (under-says I E (list p x E)) (among-says p x I Es))
   where
     together : (t : Step) → Under I E (list p x E) t ⊎ UnderOne p x I Es t → UnderOne p x I (E ∷ Es) t

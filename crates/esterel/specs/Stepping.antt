@@ -67,21 +67,21 @@ unfoldable pub same : Reaction → Reaction → Bool
 same r t = eqb (r .emitted) (t .emitted) && (eqb (r .code) (t .code) && eqb (r .reached) (t .reached))
 
 -- what two answers, each of some steps, come to together
-unfoldable pub joined : Answer → Answer → Answer
-joined none b = b
-joined several b = several
-joined (one t) none = one t
-joined (one t) several = several
-joined (one t) (one u) = cond (same (t .reaction) (u .reaction)) (one t) several
+unfoldable pub combined : Answer → Answer → Answer
+combined none b = b
+combined several b = several
+combined (one t) none = one t
+combined (one t) several = several
+combined (one t) (one u) = cond (same (t .reaction) (u .reaction)) (one t) several
 
 -- those of the reactions ts under E that are steps from I
 unfoldable pub answerUnder : ℕ → ℕ → List Reaction → Answer
 answerUnder I E [] = none
-answerUnder I E (r ∷ ts) = joined (cond (eqb E (I union r .emitted)) (one (record { assumed = E; reaction = r })) none) (answerUnder I E ts)
+answerUnder I E (r ∷ ts) = combined (cond (eqb E (I union r .emitted)) (one (record { assumed = E; reaction = r })) none) (answerUnder I E ts)
 
 unfoldable pub answerAmong : Statement → State → ℕ → List ℕ → Answer
 answerAmong p x I [] = none
-answerAmong p x I (E ∷ more) = joined (answerUnder I E (listing p x E)) (answerAmong p x I more)
+answerAmong p x I (E ∷ more) = combined (answerUnder I E (listing p x E)) (answerAmong p x I more)
 
 -- the answer for a program in a state from I: what contracts and the theorem on the trimmed program speak of
 unfoldable pub stepping : Statement → State → ℕ → Answer

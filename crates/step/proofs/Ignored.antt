@@ -9,19 +9,19 @@ use Rattle.sets.specs.Set.{_intersect_}
 use Rattle.esterel.specs.Statement.{Statement, pauses}
 use Rattle.esterel.specs.Reactions.{resumed}
 use Rattle.esterel.specs.Listing.{listing, nesting, crowded, some}
-use Rattle.esterel.specs.Stepping.{Answer, joined, lookedAt, answerUnder, answerAmong, stepping, manyFree, crowdedFrom}
+use Rattle.esterel.specs.Stepping.{Answer, combined, lookedAt, answerUnder, answerAmong, stepping, manyFree, crowdedFrom}
 use Rattle.esterel.proofs.Ignored.{agree-intersect, list-agree, crowded-agree}
 use Rattle.table.specs.Outcomes.{refusal}
 use Rattle.table.specs.Reading.{Table, tableOf}
 use Rattle.table.specs.Reading as table
 use Rattle.list.specs.Answers.{stateOf}
-use Rattle.step.specs.Answers.{answerOutcome, stepFor, stepIn, stepOf}
+use Rattle.step.specs.Answers.{steppingOutcome, stepFor, stepIn, stepOf}
 
 module _ (p : Statement) (X Y : ℕ) (e : X intersect pauses p ≡ Y intersect pauses p) where
   among-same : (I : ℕ) (Es : List ℕ) → answerAmong p (resumed X) I Es ≡ answerAmong p (resumed Y) I Es
   unfolding answerAmong listing
   among-same I [] = refl
-  among-same I (E ∷ Es) = ap₂ joined (ap (answerUnder I E) (list-agree X Y p (agree-intersect (pauses p) X Y e) E)) (among-same I Es)
+  among-same I (E ∷ Es) = ap₂ combined (ap (answerUnder I E) (list-agree X Y p (agree-intersect (pauses p) X Y e) E)) (among-same I Es)
 
   crowded-same : (Es : List ℕ) → some (crowded p (resumed X)) Es ≡ some (crowded p (resumed Y)) Es
   unfolding some
@@ -32,7 +32,7 @@ module _ (p : Statement) (X Y : ℕ) (e : X intersect pauses p ≡ Y intersect p
   unfolding stateOf stepFor stepping crowdedFrom
   for-same I zero = refl
   for-same I (suc m) =
-      ap₂ (λ (b : Bool) (a : Answer). cond (ltb 12 (nesting p)) (refusal 14) (cond (manyFree p) (refusal 17) (cond b (refusal 15) (answerOutcome a))))
+      ap₂ (λ (b : Bool) (a : Answer). cond (ltb 12 (nesting p)) (refusal 14) (cond (manyFree p) (refusal 17) (cond b (refusal 15) (steppingOutcome a))))
       (crowded-same (lookedAt p I)) (among-same I (lookedAt p I))
 
 -- "label bits without a pause, bit 0 among them, are ignored in a state"

@@ -16,19 +16,19 @@ use Rattle.table.specs.Reading.{Table, tableOf}
 use Rattle.table.specs.Reading as table
 use Rattle.table.proofs.Accepted.{accepted}
 use Rattle.list.specs.Answers.{stateOf}
-use Rattle.step.specs.Answers.{answerOutcome, stepFor, stepIn, stepOf}
+use Rattle.step.specs.Answers.{steppingOutcome, stepFor, stepIn, stepOf}
 
 -- an outcome that is no refusal
 abbrev Accepts : Outcome → Type 0
 Accepts (refusal w) = ⊥
 Accepts (values vs) = Unit {0}
 
-for-values : (p : Statement) (x : State) (I : ℕ) (vs : List ℕ) → stepFor p x I ≡ values vs → answerOutcome (stepping p x I) ≡ values vs
+for-values : (p : Statement) (x : State) (I : ℕ) (vs : List ℕ) → stepFor p x I ≡ values vs → steppingOutcome (stepping p x I) ≡ values vs
 unfolding stepFor
 for-values p x I vs = go (ltb 12 (nesting p)) (manyFree p) (crowdedFrom p x I)
   where
-    go : (b c d : Bool) → cond b (refusal 14) (cond c (refusal 17) (cond d (refusal 15) (answerOutcome (stepping p x I)))) ≡ values vs
-        → answerOutcome (stepping p x I) ≡ values vs
+    go : (b c d : Bool) → cond b (refusal 14) (cond c (refusal 17) (cond d (refusal 15) (steppingOutcome (stepping p x I)))) ≡ values vs
+        → steppingOutcome (stepping p x I) ≡ values vs
     go true c d e = absurd (subst Accepts (sym e) tt)
     go false true d e = absurd (subst Accepts (sym e) tt)
     go false false true e = absurd (subst Accepts (sym e) tt)
@@ -38,7 +38,7 @@ module _ (t : List ℕ) (I mark X : ℕ) (vs : List ℕ) (e : stepOf t I mark X 
   abbrev state : State
   state = stateOf mark X
 
-  computed : (n : ℕ) (p : Statement) → tableOf t ≡ table.holds n p → answerOutcome (stepping p state I) ≡ values vs
+  computed : (n : ℕ) (p : Statement) → tableOf t ≡ table.holds n p → steppingOutcome (stepping p state I) ≡ values vs
   unfolding stepOf stepIn
   computed n p h = for-values p state I vs (sym (ap (λ (T : Table). stepIn T I mark X) h) ∙ e)
 
@@ -46,14 +46,14 @@ module _ (t : List ℕ) (I mark X : ℕ) (vs : List ℕ) (e : stepOf t I mark X 
   right n p h = stepping-is p state I (valid-free 0 p (accepted t n p h .valid))
 
   -- the values are those of an answer that is right
-  pub answers-mean : (n : ℕ) × (p : Statement) × (a : Answer) × (tableOf t ≡ table.holds n p) × IsAnswer p state I a × (answerOutcome a ≡ values vs)
+  pub answers-mean : (n : ℕ) × (p : Statement) × (a : Answer) × (tableOf t ≡ table.holds n p) × IsAnswer p state I a × (steppingOutcome a ≡ values vs)
   unfolding stepOf stepIn
   answers-mean = go (tableOf t) refl
     where
-      go : (T : Table) → tableOf t ≡ T → (n : ℕ) × (p : Statement) × (a : Answer) × (tableOf t ≡ table.holds n p) × IsAnswer p state I a × (answerOutcome a ≡ values vs)
+      go : (T : Table) → tableOf t ≡ T → (n : ℕ) × (p : Statement) × (a : Answer) × (tableOf t ≡ table.holds n p) × IsAnswer p state I a × (steppingOutcome a ≡ values vs)
       go (table.refused w) h = absurd (subst Accepts (sym e ∙ ap (λ (T : Table). stepIn T I mark X) h) tt)
       go (table.holds n p) h = (n, p, stepping p state I, h, right n p h, computed n p h)
 
   -- and of each that is
-  pub meant-answered : (n : ℕ) (p : Statement) → tableOf t ≡ table.holds n p → (a : Answer) → IsAnswer p state I a → answerOutcome a ≡ values vs
-  meant-answered n p h a m = ap answerOutcome (answer-unique (StepFrom p state I) a (stepping p state I) m (right n p h)) ∙ computed n p h
+  pub meant-answered : (n : ℕ) (p : Statement) → tableOf t ≡ table.holds n p → (a : Answer) → IsAnswer p state I a → steppingOutcome a ≡ values vs
+  meant-answered n p h a m = ap steppingOutcome (answer-unique (StepFrom p state I) a (stepping p state I) m (right n p h)) ∙ computed n p h

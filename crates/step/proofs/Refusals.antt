@@ -15,7 +15,7 @@ use Rattle.table.specs.Reading.{Table, tableOf}
 use Rattle.table.specs.Reading as table
 use Rattle.table.proofs.Refusals.{OfCheck, table-refusals}
 use Rattle.list.specs.Answers.{stateOf}
-use Rattle.step.specs.Answers.{answerOutcome, stepFor, stepIn, stepOf}
+use Rattle.step.specs.Answers.{steppingOutcome, stepFor, stepIn, stepOf}
 
 -- the numbers of step's refusals
 abbrev pub OfStep : ℕ → Type 0
@@ -25,8 +25,8 @@ abbrev Refuses : Outcome → Type 0
 Refuses (refusal w) = OfStep w
 Refuses (values vs) = Unit {0}
 
-answer-refusals : (a : Answer) → Refuses (answerOutcome a)
-unfolding answerOutcome
+answer-refusals : (a : Answer) → Refuses (steppingOutcome a)
+unfolding steppingOutcome
 answer-refusals (one t) = tt
 answer-refusals none = tt
 answer-refusals several = tt
@@ -35,7 +35,7 @@ for-refusals : (p : Statement) (x : State) (I : ℕ) → Refuses (stepFor p x I)
 unfolding stepFor
 for-refusals p x I = go (ltb 12 (nesting p)) (manyFree p) (crowdedFrom p x I)
   where
-    go : (b c d : Bool) → Refuses (cond b (refusal 14) (cond c (refusal 17) (cond d (refusal 15) (answerOutcome (stepping p x I)))))
+    go : (b c d : Bool) → Refuses (cond b (refusal 14) (cond c (refusal 17) (cond d (refusal 15) (steppingOutcome (stepping p x I)))))
     go true c d = inr (inl (omega arith, omega arith))
     go false true d = inr (inr refl)
     go false false true = inr (inl (omega arith, omega arith))

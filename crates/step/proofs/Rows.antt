@@ -9,7 +9,7 @@ use lib.Dec.{eqb}
 use borrow.Author.Tests.{eq-eqb, ne-eqb}
 use Rattle.sets.specs.Set.{_union_, _minus_}
 use Rattle.sets.proofs.Booleans.{by-cond}
-use Rattle.esterel.specs.Stepping.{Answer, one, none, several, same, joined}
+use Rattle.esterel.specs.Stepping.{Answer, one, none, several, same, combined}
 use Rattle.esterel.specs.inner.Conditions.{Condition, always, holds, seen}
 use Rattle.esterel.specs.inner.Rows.{Row}
 use Rattle.esterel.specs.inner.Stepping.{rowAssumed, rowSteps, rowAnswer, rowsAnswer}
@@ -47,8 +47,8 @@ unfolding answered packed
 step-given I w l o k e f = ap₂ (λ (a b : ℕ). One (I union a) a b l) e f
 
 -- ---- two answers
-pub merged-answered : (a b : Answer) → merged (answered a) (answered b) ≡ answered (joined a b)
-unfolding answered merged joined same
+pub merged-answered : (a b : Answer) → merged (answered a) (answered b) ≡ answered (combined a b)
+unfolding answered merged combined same
 merged-answered none b = refl
 merged-answered several (one t) = refl
 merged-answered several none = refl

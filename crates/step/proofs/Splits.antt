@@ -12,7 +12,7 @@ use Rattle.sets.proofs.Members.{has-only-other, apart-union}
 use Rattle.sets.proofs.Counts.{count-without, count-empty}
 use Rattle.esterel.specs.Statement.{Statement}
 use Rattle.esterel.specs.Reactions.{State}
-use Rattle.esterel.specs.Stepping.{Answer, one, none, several, joined}
+use Rattle.esterel.specs.Stepping.{Answer, one, none, several, combined}
 use Rattle.esterel.specs.inner.CappedRows.{cappedRows}
 use Rattle.esterel.specs.inner.Stepping.{Found, crowded, answer, Looked, rowsAnswer}
 use Rattle.esterel.proofs.Conditions.{other}
@@ -162,7 +162,7 @@ module _ {p : Statement} {x : State} {I A U more less w : ℕ} {r : Stepped} (s 
         result = result-is (answer a) crowded d c ∙ refusal-last a;
       }
       go (answer a) d (answer b) c = record {
-        all = answer (joined a b);
+        all = answer (combined a b);
         looked = looked-split s h (u .apart s h) (subst (Looked p x I (A union only s) (U without s)) d looked-more) (subst (Looked p x I A (U without s)) c absent);
         result = result-is (answer a) (answer b) d c ∙ merged-answered a b;
       }

@@ -14,15 +14,15 @@ use Rattle.step.specs.declared.Stepped.{Stepped}
 use Rattle.step.specs.declared.Stepped.the-variants.{Refused, One, None, Several}
 
 -- the values of an answer: 0 for one, with E, O, k, L; 1 for none; 2 for several
-unfoldable pub answerOutcome : Answer → Outcome
-answerOutcome (one t) = values (0 ∷ t .assumed ∷ t .reaction .emitted ∷ t .reaction .code ∷ t .reaction .reached ∷ [])
-answerOutcome none = values (1 ∷ [])
-answerOutcome several = values (2 ∷ [])
+unfoldable pub steppingOutcome : Answer → Outcome
+steppingOutcome (one t) = values (0 ∷ t .assumed ∷ t .reaction .emitted ∷ t .reaction .code ∷ t .reaction .reached ∷ [])
+steppingOutcome none = values (1 ∷ [])
+steppingOutcome several = values (2 ∷ [])
 
 -- "after check's refusals and 14, 17 if over 10 different signals are emitted outside a declaration of them; then 15"
 unfoldable pub stepFor : Statement → State → ℕ → Outcome
 stepFor p x I =
-    cond (ltb 12 (nesting p)) (refusal 14) (cond (manyFree p) (refusal 17) (cond (crowdedFrom p x I) (refusal 15) (answerOutcome (stepping p x I))))
+    cond (ltb 12 (nesting p)) (refusal 14) (cond (manyFree p) (refusal 17) (cond (crowdedFrom p x I) (refusal 15) (steppingOutcome (stepping p x I))))
 
 unfoldable pub stepIn : Table → ℕ → ℕ → ℕ → Outcome
 stepIn (refused w) I mark X = refusal w

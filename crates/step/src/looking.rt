@@ -64,7 +64,7 @@ fn step_of(w: u64, l: u64, provided: u32) -> Stepped
 }
 
 // What two answers come to together; the same reaction found twice is one.
-fn joined(first: Stepped, second: Stepped) -> Stepped
+fn combined(first: Stepped, second: Stepped) -> Stepped
     ensures { λ r. ⌜ r ≡ merged first second ⌝ }
 {
     match first {
@@ -129,7 +129,7 @@ fn gather(
         i -= 1;
         let w = area[2 * i];
         if steps(w, slotted, provided, assumed, unknown) {
-            found = joined(step_of(w, area[2 * i + 1], provided), found);
+            found = combined(step_of(w, area[2 * i + 1], provided), found);
         }
     }
     found
@@ -324,5 +324,5 @@ pub fn look(
         state,
         limit,
     );
-    joined(present, absent)
+    combined(present, absent)
 }

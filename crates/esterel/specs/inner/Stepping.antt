@@ -9,7 +9,7 @@ use Rattle.esterel.specs.Statement.{Statement}
 use Rattle.esterel.specs.Reactions.{State}
 use Rattle.esterel.specs.Runs.{Step}
 use Rattle.esterel.specs.Listing as listing
-use Rattle.esterel.specs.Stepping.{StepFrom, Answer, one, none, Says, joined}
+use Rattle.esterel.specs.Stepping.{StepFrom, Answer, one, none, Says, combined}
 use Rattle.esterel.specs.inner.Conditions.{seen, holds}
 use Rattle.esterel.specs.inner.Rows.{Row, Agree}
 
@@ -31,7 +31,7 @@ rowAnswer M I A U w = cond (rowSteps M I A U w) (one (record { assumed = rowAssu
 -- of all rows
 unfoldable pub rowsAnswer : ℕ → ℕ → ℕ → ℕ → List Row → Answer
 rowsAnswer M I A U [] = none
-rowsAnswer M I A U (w ∷ ws) = joined (rowAnswer M I A U w) (rowsAnswer M I A U ws)
+rowsAnswer M I A U (w ∷ ws) = combined (rowAnswer M I A U w) (rowsAnswer M I A U ws)
 
 -- what looking comes to: refusal 15, or an answer
 pub data Found : Type 0 where

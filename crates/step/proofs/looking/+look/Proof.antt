@@ -22,7 +22,7 @@ use Rattle.sets.proofs.with.Reads as with-reads
 use Rattle.sets.proofs.without.Reads as without-reads
 use Rattle.step.proofs.looking.attempt.Reads as attempt-reads
 use Rattle.step.proofs.looking.attempt_large.Reads as attempt-large-reads
-use Rattle.step.proofs.looking.joined.Reads as joined-reads
+use Rattle.step.proofs.looking.combined.Reads as combined-reads
 use Rattle.step.proofs.refusal.Reads as refusal-reads
 use Rattle.step.proofs.looking.+look.{statement}
 use Rattle.step.proofs.looking.+look.Tie.{close}
@@ -52,8 +52,8 @@ claims t = (
   with-reads.Learnt,
   look-below t,
   look.Post,
-  joined-reads.Asked,
-  joined-reads.Learnt,
+  combined-reads.Asked,
+  combined-reads.Learnt,
 )
 
 -- what was tried, in one area or in two
@@ -147,8 +147,8 @@ module _ (t : ℕ) where
       let u = unknown-absent (signal t k) (is-unknown t k) (at-without .without .ensures) (s .pre .1 .1) in
       (falls-to t k (at-without .without .ensures), (s .pre .1 .0, u))
 
-  joined-requires : look-lts.Need-joined-requires (claims t) (look-at t) look.Post
-  joined-requires c κs = search needs
+  combined-requires : look-lts.Need-combined-requires (claims t) (look-at t) look.Post
+  combined-requires c κs = search needs
 
   returns-4 : look-lts.Need-returns-4 (claims t) (look-at t) look.Post
   returns-4 c =
@@ -160,7 +160,7 @@ module _ (t : ℕ) where
       let at-without = at-with .before in
       let k = at-without .before in
       looks-both (signal t k) (is-unknown t k) (at-without .without .ensures) (at-with .with .ensures) (entry t k .pre .1 .1)
-      (at-look .look .ensures) (at-refusal3 .refusal3 .ensures) (at-if4 .if4 .left) (at-look2 .look2 .ensures) (c .joined .ensures)
+      (at-look .look .ensures) (at-refusal3 .refusal3 .ensures) (at-if4 .if4 .left) (at-look2 .look2 .ensures) (c .combined .ensures)
 
 pub +look-spec : {M : Type 1} → statement M
 +look-spec =
@@ -183,5 +183,5 @@ pub +look-spec : {M : Type 1} → statement M
     (refusal-requires-3 t)
     (returns-3 t)
     (look-requires-2 t)
-    (joined-requires t)
+    (combined-requires t)
     (returns-4 t)

@@ -47,8 +47,8 @@ shared-slice-read-step-of c = let at-loop = c .before .before .before .before .b
 step-of-requires : tie.Need-step-of-requires Inv-loop μ-loop
 step-of-requires c κs = search needs
 
-joined-requires : tie.Need-joined-requires Inv-loop μ-loop
-joined-requires c κs = search needs
+combined-requires : tie.Need-combined-requires Inv-loop μ-loop
+combined-requires c κs = search needs
 
 loop-less : tie.Need-loop-less Inv-loop μ-loop
 loop-less c = omega arith
@@ -62,7 +62,7 @@ loop-again c =
     let at-loop = at-in-loop .before in
     let s = at-loop .before .before in
     gathering-step (s .args .slotted) (s .args .provided) (s .args .assumed) (s .args .unknown) (s .args .area .now) (at-in-loop .loop-test .taken) (at-loop .loop .inv)
-    (sym (at-if1 .if1 .taken) ∙ at-steps .steps .ensures _) _ _ (at-step-of .step-of .ensures) (c .joined .ensures)
+    (sym (at-if1 .if1 .taken) ∙ at-steps .steps .ensures _) _ _ (at-step-of .step-of .ensures) (c .combined .ensures)
 
 loop-less-2 : tie.Need-loop-less-2 Inv-loop μ-loop
 loop-less-2 c = omega arith
@@ -99,7 +99,7 @@ gather-spec =
     mul-step-of-2
     shared-slice-read-step-of
     step-of-requires
-    joined-requires
+    combined-requires
     loop-less
     loop-again
     loop-less-2

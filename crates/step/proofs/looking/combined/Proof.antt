@@ -1,8 +1,8 @@
 -- By the variants of both.
 use Rattle.step.proofs.Joins.{first-refused, first-none, several-refused, several-one, several-none, several-several, one-refused, one-none, one-several, other-emitted, other-code, other-reached, same-reaction}
 use borrow.Author.Needs.{needs}
-use Rattle.step.proofs.looking.joined.Statement.{statement}
-use Rattle.step.proofs.looking.joined.Tie as tie
+use Rattle.step.proofs.looking.combined.Statement.{statement}
+use Rattle.step.proofs.looking.combined.Tie as tie
 
 enum-told : tie.Need-enum-told
 enum-told c = search needs
@@ -116,8 +116,8 @@ returns-13 c =
     let s = at-first .before .before in
     same-reaction (s .args .first) (s .args .second) (at-first .first .given .1) (at-second .second .given .1) (c .before .before .if1 .left) (c .before .if2 .left) (c .if3 .left)
 
-pub joined-spec : {M : Type 1} → statement M
-joined-spec =
+pub combined-spec : {M : Type 1} → statement M
+combined-spec =
     tie.close
     (tie.spec
     enum-told
