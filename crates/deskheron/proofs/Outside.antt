@@ -12,7 +12,7 @@ use Rattle.esterel.specs.Reachability.{nextR, reachFrom, reach}
 use Rattle.esterel.specs.Trimming.{isNothing, joinParts, names, endsAt, shiftLevel, shiftExits, canEnd, trimLoop, trimSignal, trimPresent, trimTry, trim, trimmed}
 use Rattle.esterel.specs.Reactions.{State, resumed, Reaction, reachedTogether}
 use Rattle.esterel.specs.Listing.{reaction, before, insert, sorted, each, hide, follow, pair, together, going, caught, list, listing}
-use Rattle.esterel.specs.Stepping.{Answer, emittedFree, madeOf, signals, lookedAt, joined, answerUnder, answerAmong, stepping}
+use Rattle.esterel.specs.Stepping.{Answer, emittedFree, madeOf, signals, lookedAt, combined, answerUnder, answerAmong, stepping}
 
 pub unreached : Statement
 unreached = sequence (loop nothing) (pause 1)
@@ -37,17 +37,17 @@ unfolding madeOf
 made-of-none zero I = refl
 made-of-none (suc S) I = rw (has-empty S) (made-of-none S I)
 
-looks-once : (p : Statement) (x : State) (I : ℕ) → emittedFree p ≡ 0 → stepping p x I ≡ joined (answerUnder I I (listing p x I)) Answer.none
+looks-once : (p : Statement) (x : State) (I : ℕ) → emittedFree p ≡ 0 → stepping p x I ≡ combined (answerUnder I I (listing p x I)) Answer.none
 unfolding stepping lookedAt answerAmong
 looks-once p x I e = ap (λ (F : ℕ). answerAmong p x I (madeOf signals I F)) e ∙ ap (answerAmong p x I) (made-of-none signals I)
 
 -- so its answer is one for the program, and none for the trimmed
 pub steps-outside : stepping unreached (resumed (only 1)) 0 ≡ Answer.one (record { assumed = 0; reaction = reaction 0 0 0 })
-unfolding unreached emittedFree answerUnder joined _union_
-steps-outside = looks-once unreached (resumed (only 1)) 0 refl ∙ ap (λ (ts : List Reaction). joined (answerUnder 0 0 ts) Answer.none) ends-outside
+unfolding unreached emittedFree answerUnder combined _union_
+steps-outside = looks-once unreached (resumed (only 1)) 0 refl ∙ ap (λ (ts : List Reaction). combined (answerUnder 0 0 ts) Answer.none) ends-outside
 
 pub trimmed-steps-outside : stepping (trimmed unreached) (resumed (only 1)) 0 ≡ Answer.none
-unfolding emittedFree answerUnder joined
+unfolding emittedFree answerUnder combined
 trimmed-steps-outside =
     looks-once (trimmed unreached) (resumed (only 1)) 0 (ap emittedFree trimmed-unreached)
-    ∙ ap (λ (ts : List Reaction). joined (answerUnder 0 0 ts) Answer.none) trimmed-outside
+    ∙ ap (λ (ts : List Reaction). combined (answerUnder 0 0 ts) Answer.none) trimmed-outside
