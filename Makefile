@@ -15,7 +15,7 @@ CARGO := CARGO_TARGET_DIR=target/second cargo build --quiet --offline --locked -
 SECOND := target/second/release/second
 BENCH := target/bench/bench
 # KiB of stack that an entry takes at most, as docs/c-interface.md says.
-STACK := 104
+STACK := 100
 
 all: tools report library second bench
 	@rt check

@@ -29,7 +29,8 @@ Says (one t) P = P t × ((u : Step) → P u → u ≡ t)
 Says none P = (t : Step) → P t → ⊥
 Says several P = (t : Step) × (u : Step) × P t × P u × (t ≢ u)
 
--- a is the answer for p in the state x from I. There is always one, and no two are (proofs/Stepping).
+-- a is the answer for p in the state x from I. No two are, and the one computed below is, where signals are numbers below 32
+-- (proofs/Stepping).
 abbrev pub IsAnswer : Statement → State → ℕ → Answer → Type 0
 IsAnswer p x I a = Says a (StepFrom p x I)
 

@@ -1,5 +1,5 @@
 // A table made ready, once, for listing any of its states under any assumed set: its nodes decoded and checked, and what the lister
-// asks of each noted. And the signals that may be unknown, which are chosen for those that are.
+// asks of each noted. And the choice of the signals that may be unknown, made anew for each set of those that are.
 use crate::Prepared;
 use crate::TOO_NESTED;
 use crate::noting::note_all;

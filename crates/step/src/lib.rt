@@ -3,7 +3,7 @@
 // The cost: the table is decoded, checked and noted once, as for list, and one pass finds the signals that are emitted outside a
 // declaration of them. The sets E that may be assumed differ in those of them that are not provided; the lister takes these as
 // unknown, so that all sets are usually looked at in one list of rows. Where that gives up, one of them is made present and then
-// absent: at most twice as many lists as there are sets.
+// absent: at most twice as many lists as there are sets, each made again in a larger area where the small one is too small.
 mod free;
 mod looking;
 
