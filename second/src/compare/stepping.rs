@@ -135,7 +135,7 @@ fn ask(t: &mut Trial, p: &Statement, asked: Asked) -> Outcome {
     let (crowded, others): (Vec<u32>, Vec<u32>) =
         assumed.into_iter().partition(|e| too_many(p, state, *e));
     let steps = |e: &u32| steps_under(p, state, i, *e).next().is_some();
-    if !crowded.iter().any(steps) && others.iter().any(steps) {
+    if !crowded.is_empty() && !crowded.iter().any(steps) && others.iter().any(steps) {
         t.counts.see(Seen::CrowdedElsewhere);
     }
     Ok(())
