@@ -13,24 +13,21 @@ use second::trees::*;
 const STATES: [(&str, Asked); 2] =
     [("start", Asked { signals: 0, ..START }), ("resumed", Asked { signals: 0, ..RESUMED })];
 
-/// An answer as one number.
-fn folded(answer: u32, numbers: [u32; 3], reached: u64) -> u32 {
-    let [e, o, k] = numbers;
-    answer ^ e.rotate_left(5) ^ o.rotate_left(13) ^ k.rotate_left(29) ^ reached as u32
-}
+/// The answer, E, O and k, and L; of other answers than "one", 0 for all but the first.
+type Given = ([u32; 4], u64);
 
-fn by_library(table: &[u8], asked: Asked) -> u32 {
+fn by_library(table: &[u8], asked: Asked) -> Given {
     let ([mut answer, mut e, mut o, mut k], mut reached) = ([0; 4], 0);
     let refusal = library::step(table, asked, [&mut answer, &mut e, &mut o, &mut k], &mut reached);
     assert!(refusal == 0, "a step is refused with {refusal}");
-    folded(answer, [e, o, k], reached)
+    ([answer, e, o, k], reached)
 }
 
-fn by_plain(table: &[u8], asked: Asked) -> u32 {
+fn by_plain(table: &[u8], asked: Asked) -> Given {
     match plain::step(table, asked) {
-        Ok(Answer::One(found)) => folded(0, [found.e, found.r.o, found.r.k.into()], found.r.l),
-        Ok(Answer::None) => folded(1, [0; 3], 0),
-        Ok(Answer::Several) => folded(2, [0; 3], 0),
+        Ok(Answer::One(found)) => ([0, found.e, found.r.o, found.r.k.into()], found.r.l),
+        Ok(Answer::None) => ([1, 0, 0, 0], 0),
+        Ok(Answer::Several) => ([2, 0, 0, 0], 0),
         Err(refusal) => panic!("a step is refused with {refusal}"),
     }
 }
