@@ -63,7 +63,7 @@ fn time<T: PartialEq>(
     }
     let [ours, theirs] = best.map(|ns| ns / row.tables.len() as f64);
     let nodes = row.nodes();
-    print!("{operation:<6} {:<40} {nodes:>6.0}", row.name);
+    print!("{operation:<6} {:<42} {nodes:>6.0}", row.name);
     print!(" {ours:>10.0} {:>8.2} {theirs:>10.0} {:>8.2}", ours / nodes, theirs / nodes);
     println!(" {:>7.2}", ours / theirs);
 }
@@ -256,7 +256,7 @@ fn main() {
          result buffers are not cleared before a call"
     );
     println!(
-        "{:<6} {:<40} {:>6} {:>10} {:>8} {:>10} {:>8} {:>7}",
+        "{:<6} {:<42} {:>6} {:>10} {:>8} {:>10} {:>8} {:>7}",
         "", "", "nodes", "library ns", "per node", "plain ns", "per node", "ratio"
     );
     let mut random = Random(30);
