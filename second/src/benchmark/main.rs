@@ -1,6 +1,6 @@
 //! Times each operation of the proved library against the plain implementation, on the same
-//! generated tables in one process. What both answer is compared first: for reach its sets and
-//! rounds, for step all that it gives, for the others a refusal or the count.
+//! generated tables in one process. What both answer is compared first: for reach and step every
+//! value that they give, for the others a refusal or the count.
 //!
 //! Each figure is the best of several batches that take turns. Result buffers are not cleared
 //! before a call. A call includes everything that the operation does, the making ready of its
@@ -34,7 +34,7 @@ impl Row {
 }
 
 /// Nanoseconds for one pass over the tables.
-fn batch(tables: &[Vec<u8>], call: &mut dyn FnMut(&[u8]) -> u32) -> f64 {
+fn batch<T>(tables: &[Vec<u8>], call: &mut dyn FnMut(&[u8]) -> T) -> f64 {
     let begun = Instant::now();
     let mut passes = 0;
     while begun.elapsed() < BATCH {
@@ -47,11 +47,11 @@ fn batch(tables: &[Vec<u8>], call: &mut dyn FnMut(&[u8]) -> u32) -> f64 {
 }
 
 /// Times both sides on a row and prints it.
-fn time(
+fn time<T: PartialEq>(
     operation: &str,
     row: &Row,
-    library: &mut dyn FnMut(&[u8]) -> u32,
-    plain: &mut dyn FnMut(&[u8]) -> u32,
+    library: &mut dyn FnMut(&[u8]) -> T,
+    plain: &mut dyn FnMut(&[u8]) -> T,
 ) {
     let mut best = [f64::MAX; 2];
     for table in &row.tables {
@@ -63,7 +63,7 @@ fn time(
     }
     let [ours, theirs] = best.map(|ns| ns / row.tables.len() as f64);
     let nodes = row.nodes();
-    print!("{operation:<6} {:<40} {nodes:>6.0}", row.name);
+    print!("{operation:<6} {:<42} {nodes:>6.0}", row.name);
     print!(" {ours:>10.0} {:>8.2} {theirs:>10.0} {:>8.2}", ours / nodes, theirs / nodes);
     println!(" {:>7.2}", ours / theirs);
 }
@@ -92,17 +92,18 @@ fn reach(row: &Row) {
     let rounds: u32 = row.tables.iter().map(|t| plain::reach(t).map_or(0, |r| r.rounds)).sum();
     let rounds = f64::from(rounds) / row.tables.len() as f64;
     let name = format!("{}, {rounds:.1} rounds", row.name);
-    let folded = |start: u64, r: u64, rounds: u32| (start ^ r.rotate_left(7)) as u32 ^ rounds;
     time(
         "reach",
         &Row { name, tables: row.tables.clone() },
         &mut |table| {
             let (mut ends, mut start, mut r, mut rounds) = (0, 0, 0, 0);
-            library::reach(table, &mut ends, &mut start, &mut r, &mut rounds);
-            folded(start, r, rounds)
+            let refusal = library::reach(table, &mut ends, &mut start, &mut r, &mut rounds);
+            assert!(refusal == 0, "a table is refused with {refusal}");
+            (ends, start, r, rounds)
         },
-        &mut |table| {
-            plain::reach(table).map_or(0, |found| folded(found.start, found.r, found.rounds))
+        &mut |table| match plain::reach(table) {
+            Ok(found) => (found.ends.into(), found.start, found.r, found.rounds),
+            Err(refusal) => panic!("a table is refused with {refusal}"),
         },
     );
 }
@@ -255,7 +256,7 @@ fn main() {
          result buffers are not cleared before a call"
     );
     println!(
-        "{:<6} {:<40} {:>6} {:>10} {:>8} {:>10} {:>8} {:>7}",
+        "{:<6} {:<42} {:>6} {:>10} {:>8} {:>10} {:>8} {:>7}",
         "", "", "nodes", "library ns", "per node", "plain ns", "per node", "ratio"
     );
     let mut random = Random(30);

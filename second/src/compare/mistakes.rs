@@ -40,6 +40,8 @@ mistakes! {
     ProvidedUncounted
     /// 17 comes before 14
     SeventeenFirst
+    /// 15 comes before 14 and 17, where a list under the provided set has over 64 reactions
+    FifteenFirst
     /// 15 is looked for under the provided set alone
     CrowdedUnderProvided
     /// 15 is given only where that E has a step
@@ -125,6 +127,9 @@ impl Mistake {
         let Asked { signals: i, mut mark, labels } = asked;
         mark |= u32::from(self == LabelsAtStart && labels != 0);
         let state = state(mark, labels);
+        if self == FifteenFirst && too_many(&p, state, i) {
+            return Err(15);
+        }
         self.refused(&p, i)?;
         let assumed = made_of(i, if self == ProvidedAlone { 0 } else { emitted_free(&p) });
         if assumed.iter().any(|e| self.crowded(&p, state, i, *e)) {

@@ -73,6 +73,8 @@ pub fn examples() -> Vec<Example> {
     let nine_and_beside = parallel(each(1..10, Emit), beside.clone());
     let ten_and_beside = parallel(each(1..11, Emit), beside.clone());
     let ten_and_declared = parallel(ten.clone(), Signal(10, Emit(10).into()));
+    let emits_and_crowd = |emits| parallel(each(0..emits, Emit), product(5, 13));
+    let crowd_and_nested = |count| parallel(product(5, 13), inside_signals(count, Nothing));
     vec![
         (Emit(0), start(0), one(1, 1)),
         (Emit(0), start(1), one(1, 1)),
@@ -94,6 +96,13 @@ pub fn examples() -> Vec<Example> {
         (full, start(0), one(0, 0)),
         (over.clone(), start(0), Err(15)),
         (over, start(1), Err(15)),
+        // 15 is due to the crowd; one signal more, and 17 or 14 comes before it
+        (emits_and_crowd(10), start(0), Err(15)),
+        (emits_and_crowd(10), start(1023), Err(15)),
+        (emits_and_crowd(11), start(0), Err(17)),
+        (emits_and_crowd(11), start(2047), Err(17)),
+        (crowd_and_nested(12), start(0), Err(15)),
+        (crowd_and_nested(13), start(0), Err(14)),
     ]
 }
 
@@ -126,7 +135,7 @@ fn ask(t: &mut Trial, p: &Statement, asked: Asked) -> Outcome {
     let (crowded, others): (Vec<u32>, Vec<u32>) =
         assumed.into_iter().partition(|e| too_many(p, state, *e));
     let steps = |e: &u32| steps_under(p, state, i, *e).next().is_some();
-    if !crowded.iter().any(steps) && others.iter().any(steps) {
+    if !crowded.is_empty() && !crowded.iter().any(steps) && others.iter().any(steps) {
         t.counts.see(Seen::CrowdedElsewhere);
     }
     Ok(())
