@@ -12,8 +12,8 @@ ghost use Rattle.lister.specs.inner.Notes.{Startable};
 // The numbers that an operand may be.
 const OPERANDS: usize = 64;
 
-// `until` has for each signal the place where the outermost declaration of it ends that was met last. Of a node of another kind than
-// emit and signal the operand is no signal; whether it is passed over changes nothing.
+// `until` has for each signal the place where the outermost declaration of it ends that was met last. Nodes of
+// other kinds than emit and signal emit and declare nothing, so whether they are passed over changes nothing.
 fn emitted_with(
     nodes: &[u16; MOST_NODES],
     ends: &[u16; MOST_NODES],
