@@ -8,7 +8,7 @@ use borrow.Author.Tests.{lt-ltb, le-ltb}
 use Rattle.sets.specs.Set.{has, _minus_, count}
 use Rattle.sets.proofs.Booleans.{and-cases, clash, not-true}
 use Rattle.sets.proofs.Members.{has-minus}
-use Rattle.sets.proofs.Counts.{count-within}
+use Rattle.sets.proofs.Counts.{count-within, count-narrow}
 use Rattle.esterel.specs.Statement.{Statement}
 use Rattle.esterel.specs.Reactions.{State}
 use Rattle.esterel.specs.Stepping.{Answer, one, none, several, emittedFree, stepping, manyFree, crowdedFrom}
@@ -18,7 +18,6 @@ use Rattle.esterel.proofs.Looking.{looked-whole}
 use Rattle.table.specs.Outcomes.{refusal}
 use Rattle.table.specs.Reading.{Table, tableOf}
 use Rattle.table.specs.inner.Places.{statementOf}
-use Rattle.list.proofs.Slotting.{count-narrow}
 use Rattle.list.specs.Answers.{stateOf}
 use Rattle.list.specs.inner.Preparing.{Unready, malformed, nested, Ready}
 use Rattle.step.specs.declared.Stepped.{Stepped}
