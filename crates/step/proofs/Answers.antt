@@ -1,4 +1,5 @@
--- From what is prepared of a table, and what looking comes to, to the answer.
+-- From what is prepared of a table, and what looking comes to for its program, where all signals that it emits free and that are not
+-- provided are unknown, to the answer.
 use mathlib.Core.Path.{_≡_, refl, sym, ap, _∙_, subst}
 use mathlib.Core.Bool.{Bool, true, false, cond, not}
 use mathlib.Core.List.{List}
