@@ -24,6 +24,7 @@ use Rattle.step.specs.declared.Stepped.the-variants.{Refused}
 use Rattle.step.specs.Answers.{steppedOutcome}
 use Rattle.step.specs.inner.Looking.{answered, found, merged, Unknowns, Attempts, Looks}
 use Rattle.step.proofs.Rows.{merged-answered}
+use Rattle.step.proofs.Outcomes.{outcome-answered, number-answer}
 
 -- ---- the unknown signals
 pub slots-for : {A U : ℕ} → Unknowns A U → Slotted U U
@@ -52,11 +53,8 @@ module _ {A U less : ℕ} (s : ℕ) (h : has U s ≡ true) (e : less ≡ U witho
   }
 
 -- ---- the number tells what it is
-number-answer : (a : Answer) → numberOf (steppedOutcome (answered a)) ≡ 0
-unfolding numberOf steppedOutcome answered
-number-answer (one t) = refl
-number-answer none = refl
-number-answer several = refl
+number-answered : (a : Answer) → numberOf (steppedOutcome (answered a)) ≡ 0
+number-answered a = ap numberOf (outcome-answered a) ∙ number-answer a
 
 number-refused : (w : ℕ) → numberOf (steppedOutcome (Refused w)) ≡ w
 unfolding numberOf steppedOutcome
@@ -101,7 +99,7 @@ module _ {a b : List ℕ} {n A U : ℕ} (M : ℕ) (p : Statement) (x : State) (I
   attempts-rows {r} s h e = record { accepted = λ z. looks; alone = λ z k. looks; ample = λ g k. omega (arith, number) }
     where
       number : numberOf (steppedOutcome r) ≡ 0
-      number = ap (λ (z : Stepped). numberOf (steppedOutcome z)) e ∙ number-answer (rowsAnswer M I A U (rows b 0 n))
+      number = ap (λ (z : Stepped). numberOf (steppedOutcome z)) e ∙ number-answered (rowsAnswer M I A U (rows b 0 n))
 
       looks : Looks p x I A U r
       looks = record {
@@ -141,7 +139,7 @@ module _ {p : Statement} {x : State} {I A U more less w : ℕ} {r : Stepped} (s 
     where
       go : (v : Found) → l .all ≡ v → Looks p x I A U r
       go crowded d = record { all = crowded; looked = looked-present s h (subst (Looked p x I (A union only s) (U without s)) d looked-more); result = l .result ∙ ap found d }
-      go (answer a) d = absurd (n (number (answer a) d ∙ number-answer a))
+      go (answer a) d = absurd (n (number (answer a) d ∙ number-answered a))
 
   pub looks-both : {q t : Stepped} → w ≡ 0 → Looks p x I A less q → t ≡ merged r q → Looks p x I A U t
   unfolding found
