@@ -3,59 +3,35 @@
 -- brings no signal that is emitted outside a declaration, so neither 14 nor 17.
 use mathlib.Core.Path.{_≡_, refl, sym, ap, _∙_, subst}
 use mathlib.Core.Logic.{_≢_}
-use mathlib.Core.Bool.{true, false, cond}
+use mathlib.Core.Bool.{false}
 use mathlib.Core.List.{List}
 use Prim.Native.Nat.{ℕ}
 use native.Mathlib.Omega.{arith}
 use lib.Dec.{ltb}
-use Rattle.sets.proofs.Booleans.{by-cond, clash}
+use Rattle.sets.proofs.Booleans.{clash}
 use Rattle.esterel.specs.Statement.{Statement}
 use Rattle.esterel.specs.Trimming.{trimmed}
 use Rattle.esterel.specs.Reactions.{State}
 use Rattle.esterel.specs.Runs.{Step, Run, StateOf}
 use Rattle.esterel.specs.Listing.{nesting}
-use Rattle.esterel.specs.Stepping.{Answer, one, none, several, IsAnswer, emittedFree, stepping, manyFree, crowdedFrom}
+use Rattle.esterel.specs.Stepping.{IsAnswer, emittedFree, stepping, manyFree}
 use Rattle.esterel.proofs.Conditions.{in-right}
 use Rattle.esterel.proofs.Bounds.{valid-free}
 use Rattle.esterel.proofs.Stepping.{FreeSignals, step-within, step-looked-at, stepping-is}
 use Rattle.esterel.proofs.Limits.{shallow-trimmed, few-trimmed}
 use Rattle.esterel.proofs.Indistinguishable.{same-steps}
-use Rattle.table.specs.Outcomes.{Outcome, refusal, values, numberOf}
+use Rattle.table.specs.Outcomes.{Outcome, values, numberOf}
 use Rattle.table.specs.Reading.{Table, refused, holds, tableOf}
 use Rattle.table.specs.Writing.{write}
 use Rattle.table.proofs.Refusals.{table-refusals}
 use Rattle.list.specs.Answers.{stateOf}
-use Rattle.step.specs.Answers.{steppingOutcome, stepFor, stepIn, stepOf}
+use Rattle.step.specs.Answers.{steppingOutcome, stepIn, stepOf}
+use Rattle.step.proofs.Outcomes.{Tested, nested, many, crowds, answers, tested, number-answer}
 use Rattle.step.proofs.Meaning.{answers-mean, meant-answered}
 use Rattle.deskheron.specs.Demand.{Marked, AnswersByTheRules, StepsByTheRules, TrimmedStepsTheSame}
 use Rattle.deskheron.proofs.Trimmed.{state-is, held, levels, reads}
 
--- ---- what step comes to of a statement, and why
-data Tested (p : Statement) (x : State) (I : ℕ) : Outcome → Type 0 where
-  nested : ltb 12 (nesting p) ≡ true → Tested p x I (refusal 14)
-  many : manyFree p ≡ true → ltb 12 (nesting p) ≡ false → Tested p x I (refusal 17)
-  crowds : manyFree p ≡ false → ltb 12 (nesting p) ≡ false → Tested p x I (refusal 15)
-  answers : manyFree p ≡ false → ltb 12 (nesting p) ≡ false → Tested p x I (steppingOutcome (stepping p x I))
-
-tested : (p : Statement) (x : State) (I : ℕ) → Tested p x I (stepFor p x I)
-unfolding stepFor
-tested p x I =
-    by-cond (Tested p x I) (ltb 12 (nesting p)) (refusal 14) after nested
-    (λ s. by-cond (Tested p x I) (manyFree p) (refusal 17) last (λ f. many f s)
-    (λ f. by-cond (Tested p x I) (crowdedFrom p x I) (refusal 15) (steppingOutcome (stepping p x I)) (λ c. crowds f s) (λ c. answers f s)))
-  where
-    last : Outcome
-    last = cond (crowdedFrom p x I) (refusal 15) (steppingOutcome (stepping p x I))
-
-    after : Outcome
-    after = cond (manyFree p) (refusal 17) last
-
-number-answer : (a : Answer) → numberOf (steppingOutcome a) ≡ 0
-unfolding numberOf steppingOutcome
-number-answer (one t) = refl
-number-answer none = refl
-number-answer several = refl
-
+-- ---- the limits, from what step comes to of a statement
 module _ {p : Statement} {x : State} {I : ℕ} where
   shallow : {v : Outcome} → Tested p x I v → numberOf v ≢ 14 → ltb 12 (nesting p) ≡ false
   unfolding numberOf

@@ -12,7 +12,7 @@ use Rattle.esterel.specs.Statement.{Statement, nothing, pause, emit, sig
 use Rattle.esterel.specs.Trimming.{names}
 use Rattle.esterel.specs.Reactions.{start, reachedTogether}
 use Rattle.esterel.specs.Listing.{reaction, before, insert, sorted, each, pair, together, list, needs, some as some-of, crowdedWithin, crowded}
-use Rattle.esterel.specs.inner.Conditions.{slotOf, condition, always, both, clashes, forget}
+use Rattle.esterel.specs.inner.Conditions.{condition, always, both, clashes, forget}
 use Rattle.esterel.specs.inner.Rows.{rowWhen, eachRow, given, then, tested, asked, emitRows, localRow, localRows, hideRows, togetherRows, rowsOf, Agree, Quiet}
 use Rattle.esterel.specs.inner.CappedRows.{lessOr, beforeRow, insertRow, sortedRows, capRows, collectRows, changeRows, joinRows, otherwise, givenUp, twiceRows, cappedRows}
 use Rattle.esterel.proofs.Quiet.{few, quiet}

@@ -1,30 +1,19 @@
 -- The signals that may be unknown, taken one by one: each takes one slot at most.
-use mathlib.Core.Path.{_≡_, sym, ap, _∙_, subst}
+use mathlib.Core.Path.{_≡_, sym, _∙_, subst}
 use mathlib.Core.Logic.{_⊎_, inl, inr}
-use mathlib.Core.Bool.{Bool, true, false, cond}
+use mathlib.Core.Bool.{true}
 use mathlib.Core.List.{List}
-use Prim.Native.Nat.{ℕ, zero, suc, _+_, _≤_, _<_}
+use Prim.Native.Nat.{ℕ, _+_, _≤_, _<_}
 use native.Mathlib.Omega.{arith}
 use lib.ListN.{getD}
 use Rattle.sets.specs.Set.{has, only, _union_, Within, count}
-use Rattle.sets.proofs.Booleans.{not-true, or-cases, clash}
-use Rattle.sets.proofs.Counts.{count-empty, count-only, count-union}
+use Rattle.sets.proofs.Booleans.{or-cases, clash}
+use Rattle.sets.proofs.Counts.{count-empty, count-only, count-union, count-narrow}
 use Rattle.sets.proofs.Members.{has-empty, has-union, has-only-equal}
 use Rattle.esterel.specs.inner.Conditions.{slotOf}
 use Rattle.esterel.proofs.Conditions.{in-left}
 use Rattle.lister.specs.inner.Notes.{EndsFrom, Startable}
 use Rattle.lister.specs.inner.Slots.{Slotted}
-
--- where all members are below v, counting further finds no more
-pub count-narrow : (m v d : ℕ) → ((x : ℕ) → has m x ≡ true → x < v) → count (d + v) m ≡ count v m
-unfolding count
-count-narrow m v zero h = let e : zero + v ≡ v = omega arith in ap (λ (w : ℕ). count w m) e
-count-narrow m v (suc d) h =
-    let e : suc d + v ≡ suc (d + v) = omega arith in
-    let f : has m (d + v) ≡ false = not-true (has m (d + v)) (λ k. let l = h (d + v) k in omega arith) in
-    let g : _≡_ {A = ℕ} (cond (has m (d + v)) 1 0) 0 = ap (λ (z : Bool). cond {A = ℕ} z 1 0) f in
-    let i : count (d + v) m + cond (has m (d + v)) 1 0 ≡ count v m = let k = count-narrow m v d h in omega arith in
-    ap (λ (w : ℕ). count w m) e ∙ i
 
 -- beside the unknown signals U others were taken, so many at most in all
 pub record Taken (U M used : ℕ) : Type 0 where

@@ -10,7 +10,7 @@ use lib.Dec.{eqb}
 use lib.Count.{onesIn, ones, ones-cat}
 use lib.Pow.{pow-pos, mod-pow-add}
 use Rattle.sets.specs.Set.{has, only, _union_, _without_, Within, count}
-use Rattle.sets.proofs.Booleans.{and-cases, clash}
+use Rattle.sets.proofs.Booleans.{and-cases, clash, not-true}
 use Rattle.sets.proofs.Members.{bit, has-shift, has-empty, has-union, has-minus, has-only, has-only-other, has-without-same}
 
 bit-mono : (a b : Bool) → (a ≡ true → b ≡ true) → cond a 1 0 ≤ cond b 1 0
@@ -90,6 +90,17 @@ pub count-union : (w a b : ℕ) → count w (a union b) ≤ count w a + count w 
 unfolding count
 count-union zero a b = omega arith
 count-union (suc w) a b = rw (has-union a b w) (let i = count-union w a b in let j = bit-or (has a w) (has b w) in omega arith)
+
+-- where all members are below v, counting further finds no more
+pub count-narrow : (m v d : ℕ) → ((x : ℕ) → has m x ≡ true → x < v) → count (d + v) m ≡ count v m
+unfolding count
+count-narrow m v zero h = let e : zero + v ≡ v = omega arith in ap (λ (w : ℕ). count w m) e
+count-narrow m v (suc d) h =
+    let e : suc d + v ≡ suc (d + v) = omega arith in
+    let f : has m (d + v) ≡ false = not-true (has m (d + v)) (λ k. let l = h (d + v) k in omega arith) in
+    let g : _≡_ {A = ℕ} (cond (has m (d + v)) 1 0) 0 = ap (λ (z : Bool). cond {A = ℕ} z 1 0) f in
+    let i : count (d + v) m + cond (has m (d + v)) 1 0 ≡ count v m = let k = count-narrow m v d h in omega arith in
+    ap (λ (w : ℕ). count w m) e ∙ i
 
 -- ---- as the ones among the lowest bits
 one-bit : (b : ℕ) → (b ≡ 0) ⊎ (b ≡ 1) → ones b ≡ cond (eqb b 1) 1 0

@@ -1,4 +1,5 @@
--- From what is prepared of a table, and what looking comes to, to the answer.
+-- From what is prepared of a table, and what looking comes to for its program, where all signals that it emits free and that are not
+-- provided are unknown, to the answer.
 use mathlib.Core.Path.{_≡_, refl, sym, ap, _∙_, subst}
 use mathlib.Core.Bool.{Bool, true, false, cond, not}
 use mathlib.Core.List.{List}
@@ -8,42 +9,35 @@ use borrow.Author.Tests.{lt-ltb, le-ltb}
 use Rattle.sets.specs.Set.{has, _minus_, count}
 use Rattle.sets.proofs.Booleans.{and-cases, clash, not-true}
 use Rattle.sets.proofs.Members.{has-minus}
-use Rattle.sets.proofs.Counts.{count-within}
+use Rattle.sets.proofs.Counts.{count-within, count-narrow}
 use Rattle.esterel.specs.Statement.{Statement}
 use Rattle.esterel.specs.Reactions.{State}
-use Rattle.esterel.specs.Stepping.{Answer, one, none, several, emittedFree, stepping, manyFree, crowdedFrom}
+use Rattle.esterel.specs.Stepping.{Answer, emittedFree, stepping, manyFree, crowdedFrom}
 use Rattle.esterel.specs.inner.Stepping.{crowded, answer, Looked}
 use Rattle.esterel.proofs.Bounds.{valid-free}
 use Rattle.esterel.proofs.Looking.{looked-whole}
 use Rattle.table.specs.Outcomes.{refusal}
 use Rattle.table.specs.Reading.{Table, tableOf}
 use Rattle.table.specs.inner.Places.{statementOf}
-use Rattle.list.proofs.Slotting.{count-narrow}
 use Rattle.list.specs.Answers.{stateOf}
 use Rattle.list.specs.inner.Preparing.{Unready, malformed, nested, Ready}
 use Rattle.step.specs.declared.Stepped.{Stepped}
 use Rattle.step.specs.declared.Stepped.the-variants.{Refused}
 use Rattle.step.specs.Answers.{steppingOutcome, stepFor, stepIn, stepOf, steppedOutcome}
-use Rattle.step.specs.inner.Looking.{answered, found, Unknowns, Looks}
+use Rattle.step.specs.inner.Looking.{found, Unknowns, Looks}
+use Rattle.step.proofs.Outcomes.{for-nested, for-many, for-few, outcome-answered}
 
 -- ---- a table that is refused
 unready : {T : Table} {w : ℕ} → Unready T w → (I mark X : ℕ) → refusal w ≡ stepIn T I mark X
-unfolding stepIn stepFor
+unfolding stepIn
 unready malformed I mark X = refl
-unready (nested {n} {p} h) I mark X =
-    sym (ap (λ (b : Bool). cond b (refusal 14) (cond (manyFree p) (refusal 17) (cond (crowdedFrom p (stateOf mark X) I) (refusal 15) (steppingOutcome (stepping p (stateOf mark X) I))))) h)
+unready (nested {n} {p} h) I mark X = sym (for-nested p (stateOf mark X) I h)
 
 pub unready-step : (t : List ℕ) (I mark X : ℕ) {w : ℕ} → Unready (tableOf t) w → steppedOutcome (Refused w) ≡ stepOf t I mark X
 unfolding steppedOutcome stepOf
 unready-step t I mark X u = unready u I mark X
 
 -- ---- one that is not
-outcome-answered : (a : Answer) → steppedOutcome (answered a) ≡ steppingOutcome a
-unfolding steppedOutcome answered steppingOutcome
-outcome-answered (one t) = refl
-outcome-answered none = refl
-outcome-answered several = refl
-
 outcome-found : (b : Bool) (a : Answer) → steppedOutcome (found (cond b crowded (answer a))) ≡ cond b (refusal 15) (steppingOutcome a)
 unfolding found steppedOutcome
 outcome-found true a = refl
@@ -59,11 +53,9 @@ module _ (t : List ℕ) (I mark X : ℕ) {xs ends notes unions : List ℕ} (r : 
   narrow : (S : ℕ) → has (emittedFree program) S ≡ true → S < 32
   narrow = valid-free 0 program (r .valid)
 
-  unless-many : stepOf t I mark X ≡ cond (manyFree program) (refusal 17) (cond (crowdedFrom program state I) (refusal 15) (steppingOutcome (stepping program state I)))
-  unfolding stepOf stepIn stepFor
-  unless-many =
-      ap (λ (T : Table). stepIn T I mark X) (r .holds)
-      ∙ ap (λ (b : Bool). cond b (refusal 14) (cond (manyFree program) (refusal 17) (cond (crowdedFrom program state I) (refusal 15) (steppingOutcome (stepping program state I))))) (r .shallow)
+  of-program : stepOf t I mark X ≡ stepFor program state I
+  unfolding stepOf stepIn
+  of-program = ap (λ (T : Table). stepIn T I mark X) (r .holds)
 
   module _ {free k : ℕ} (e : free ≡ emittedFree program) (c : k ≡ count 64 free) where
     count-is : k ≡ count 32 (emittedFree program)
@@ -71,9 +63,7 @@ module _ (t : List ℕ) (I mark X : ℕ) {xs ends notes unions : List ℕ} (r : 
 
     pub many-step : 10 < k → steppedOutcome (Refused 17) ≡ stepOf t I mark X
     unfolding steppedOutcome manyFree
-    many-step l =
-        sym (unless-many ∙ ap (λ (b : Bool). cond b (refusal 17) (cond (crowdedFrom program state I) (refusal 15) (steppingOutcome (stepping program state I))))
-        (lt-ltb 10 (count 32 (emittedFree program)) (subst (λ (z : ℕ). 10 < z) count-is l)))
+    many-step l = sym (of-program ∙ for-many program state I (r .shallow) (lt-ltb 10 (count 32 (emittedFree program)) (subst (λ (z : ℕ). 10 < z) count-is l)))
 
     module _ {unknown : ℕ} (u : unknown ≡ free minus I) (l : k ≤ 10) where
       unknown-is : unknown ≡ emittedFree program minus I
@@ -96,5 +86,4 @@ module _ (t : List ℕ) (I mark X : ℕ) {xs ends notes unions : List ℕ} (r : 
           subst (λ (z : State). Looked program z I I (emittedFree program minus I) (m .all)) y (subst (λ (z : ℕ). Looked program x I I z (m .all)) unknown-is (m .looked)) in
           ap steppedOutcome (m .result ∙ ap found (looked-whole program state I (m .all) narrow looked))
           ∙ outcome-found (crowdedFrom program state I) (stepping program state I)
-          ∙ sym (unless-many ∙ ap (λ (b : Bool). cond b (refusal 17) (cond (crowdedFrom program state I) (refusal 15) (steppingOutcome (stepping program state I))))
-          (le-ltb 10 (count 32 (emittedFree program)) (subst (λ (z : ℕ). z ≤ 10) count-is l)))
+          ∙ sym (of-program ∙ for-few program state I (r .shallow) (le-ltb 10 (count 32 (emittedFree program)) (subst (λ (z : ℕ). z ≤ 10) count-is l)))

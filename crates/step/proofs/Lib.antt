@@ -2,6 +2,7 @@ pub mod Scanning
 pub mod Slots
 pub mod Rows
 pub mod Joins
+pub mod Outcomes
 pub mod Splits
 pub mod Answers
 pub mod Meaning

@@ -1,21 +1,19 @@
 -- The refusals of step: check's, 14, 15 and 17. So 0 is never one, and an entry for C that returns 0 has answered.
 use mathlib.Core.Path.{_≡_, refl, subst}
 use mathlib.Core.Logic.{_⊎_, inl, inr}
-use mathlib.Core.Bool.{Bool, true, false, cond}
 use mathlib.Core.List.{List}
 use Prim.Native.Nat.{ℕ, _≤_}
 use native.Mathlib.Omega.{arith}
-use lib.Dec.{ltb}
 use Rattle.esterel.specs.Statement.{Statement}
 use Rattle.esterel.specs.Reactions.{State}
-use Rattle.esterel.specs.Listing.{nesting}
-use Rattle.esterel.specs.Stepping.{Answer, one, none, several, stepping, manyFree, crowdedFrom}
+use Rattle.esterel.specs.Stepping.{Answer, one, none, several, stepping}
 use Rattle.table.specs.Outcomes.{Outcome, refusal, values, numberOf}
 use Rattle.table.specs.Reading.{Table, tableOf}
 use Rattle.table.specs.Reading as table
 use Rattle.table.proofs.Refusals.{OfCheck, table-refusals}
 use Rattle.list.specs.Answers.{stateOf}
-use Rattle.step.specs.Answers.{steppingOutcome, stepFor, stepIn, stepOf}
+use Rattle.step.specs.Answers.{steppingOutcome, stepIn, stepOf}
+use Rattle.step.proofs.Outcomes.{Tested, nested, many, crowds, answers, tested}
 
 -- the numbers of step's refusals
 abbrev pub OfStep : ℕ → Type 0
@@ -31,15 +29,11 @@ answer-refusals (one t) = tt
 answer-refusals none = tt
 answer-refusals several = tt
 
-for-refusals : (p : Statement) (x : State) (I : ℕ) → Refuses (stepFor p x I)
-unfolding stepFor
-for-refusals p x I = go (ltb 12 (nesting p)) (manyFree p) (crowdedFrom p x I)
-  where
-    go : (b c d : Bool) → Refuses (cond b (refusal 14) (cond c (refusal 17) (cond d (refusal 15) (steppingOutcome (stepping p x I)))))
-    go true c d = inr (inl (omega arith, omega arith))
-    go false true d = inr (inr refl)
-    go false false true = inr (inl (omega arith, omega arith))
-    go false false false = answer-refusals (stepping p x I)
+tested-refusals : {p : Statement} {x : State} {I : ℕ} {v : Outcome} → Tested p x I v → Refuses v
+tested-refusals (nested s) = inr (inl (omega arith, omega arith))
+tested-refusals (many f s) = inr (inr refl)
+tested-refusals (crowds f s) = inr (inl (omega arith, omega arith))
+tested-refusals {p} {x} {I} (answers f s) = answer-refusals (stepping p x I)
 
 module _ (t : List ℕ) (I mark X : ℕ) where
   all-refusals : Refuses (stepOf t I mark X)
@@ -48,7 +42,7 @@ module _ (t : List ℕ) (I mark X : ℕ) where
     where
       go : (T : Table) → tableOf t ≡ T → Refuses (stepIn T I mark X)
       go (table.refused w) e = inl (table-refusals t w e)
-      go (table.holds n p) e = for-refusals p (stateOf mark X) I
+      go (table.holds n p) e = tested-refusals (tested p (stateOf mark X) I)
 
   -- check's, or 14, 15 or 17
   pub step-refusals : (w : ℕ) → stepOf t I mark X ≡ refusal w → OfStep w

@@ -1,5 +1,4 @@
--- Looking with signals unknown: in one list of rows, or with one of them present and with it absent. And what it comes to for a program,
--- where all signals that it emits free and that are not provided are unknown.
+-- Looking with signals unknown: in one list of rows, or with one of them present and with it absent.
 use mathlib.Core.Path.{_≡_, refl, sym, ap, ap₂, _∙_, subst}
 use mathlib.Core.Logic.{_≢_}
 use mathlib.Core.Bool.{true}
@@ -25,6 +24,7 @@ use Rattle.step.specs.declared.Stepped.the-variants.{Refused}
 use Rattle.step.specs.Answers.{steppedOutcome}
 use Rattle.step.specs.inner.Looking.{answered, found, merged, Unknowns, Attempts, Looks}
 use Rattle.step.proofs.Rows.{merged-answered}
+use Rattle.step.proofs.Outcomes.{outcome-answered, number-answer}
 
 -- ---- the unknown signals
 pub slots-for : {A U : ℕ} → Unknowns A U → Slotted U U
@@ -53,11 +53,8 @@ module _ {A U less : ℕ} (s : ℕ) (h : has U s ≡ true) (e : less ≡ U witho
   }
 
 -- ---- the number tells what it is
-number-answer : (a : Answer) → numberOf (steppedOutcome (answered a)) ≡ 0
-unfolding numberOf steppedOutcome answered
-number-answer (one t) = refl
-number-answer none = refl
-number-answer several = refl
+number-answered : (a : Answer) → numberOf (steppedOutcome (answered a)) ≡ 0
+number-answered a = ap numberOf (outcome-answered a) ∙ number-answer a
 
 number-refused : (w : ℕ) → numberOf (steppedOutcome (Refused w)) ≡ w
 unfolding numberOf steppedOutcome
@@ -67,7 +64,7 @@ number-refused w = refl
 -- it gave up, or was not tried
 gave-up : {p : Statement} {x : State} {I A U : ℕ} (room : ℕ) → (U ≡ 0 → Looks p x I A U (Refused 15)) → Attempts p x I A U room (Refused 15)
 gave-up room f = record {
-  found = λ z. absurd (let n = number-refused 15 in omega arith);
+  accepted = λ z. absurd (let n = number-refused 15 in omega arith);
   alone = λ z n. f z;
   ample = λ h e. let n = number-refused 15 in omega arith;
 }
@@ -80,7 +77,7 @@ module _ {a b : List ℕ} {n A U : ℕ} (M : ℕ) (p : Statement) (x : State) (I
   -- the area was too small, which one of 7810 words is not
   pub attempts-narrow : 65 < n → Attempts p x I A U (length a) (Refused 66)
   attempts-narrow h = record {
-    found = λ z. absurd (let n = number-refused 66 in omega arith);
+    accepted = λ z. absurd (let n = number-refused 66 in omega arith);
     alone = λ z n. absurd (n (number-refused 66));
     ample = λ g e. let c = m .cramped h in omega arith;
   }
@@ -99,10 +96,10 @@ module _ {a b : List ℕ} {n A U : ℕ} (M : ℕ) (p : Statement) (x : State) (I
 
   pub attempts-rows : {r : Stepped} → Slotted M U → n ≤ 64 → r ≡ answered (rowsAnswer M I A U (rows b 0 n)) → Attempts p x I A U (length a) r
   unfolding found
-  attempts-rows {r} s h e = record { found = λ z. looks; alone = λ z k. looks; ample = λ g k. omega (arith, number) }
+  attempts-rows {r} s h e = record { accepted = λ z. looks; alone = λ z k. looks; ample = λ g k. omega (arith, number) }
     where
       number : numberOf (steppedOutcome r) ≡ 0
-      number = ap (λ (z : Stepped). numberOf (steppedOutcome z)) e ∙ number-answer (rowsAnswer M I A U (rows b 0 n))
+      number = ap (λ (z : Stepped). numberOf (steppedOutcome z)) e ∙ number-answered (rowsAnswer M I A U (rows b 0 n))
 
       looks : Looks p x I A U r
       looks = record {
@@ -114,9 +111,9 @@ module _ {a b : List ℕ} {n A U : ℕ} (M : ℕ) (p : Statement) (x : State) (I
 -- the area was not too small
 pub attempts-enough : {p : Statement} {x : State} {I A U room w : ℕ} {r : Stepped} → Attempts p x I A U room r → w ≡ numberOf (steppedOutcome r) → w ≢ 66
     → Attempts p x I A U 7810 r
-attempts-enough t e n = record { found = t .found; alone = t .alone; ample = λ h f. n (e ∙ f) }
+attempts-enough t e n = record { accepted = t .accepted; alone = t .alone; ample = λ h f. n (e ∙ f) }
 
--- what was tried, with one signal unknown or none
+-- what was tried, with no signal unknown
 pub attempts-alone : {p : Statement} {x : State} {I A U : ℕ} {r : Stepped} → Attempts p x I A U 7810 r → U ≡ 0 → Looks p x I A U r
 attempts-alone t z = t .alone z (t .ample (omega arith))
 
@@ -142,7 +139,7 @@ module _ {p : Statement} {x : State} {I A U more less w : ℕ} {r : Stepped} (s 
     where
       go : (v : Found) → l .all ≡ v → Looks p x I A U r
       go crowded d = record { all = crowded; looked = looked-present s h (subst (Looked p x I (A union only s) (U without s)) d looked-more); result = l .result ∙ ap found d }
-      go (answer a) d = absurd (n (number (answer a) d ∙ number-answer a))
+      go (answer a) d = absurd (n (number (answer a) d ∙ number-answered a))
 
   pub looks-both : {q t : Stepped} → w ≡ 0 → Looks p x I A less q → t ≡ merged r q → Looks p x I A U t
   unfolding found

@@ -52,6 +52,6 @@ pub record Looks (p : Statement) (x : State) (I A U : ℕ) (r : Stepped) : Type 
 -- and so it is of one list of rows in an area of so many words, but for a refusal where signals are unknown, which says nothing, and for 66,
 -- which says that the area is too small
 pub record Attempts (p : Statement) (x : State) (I A U room : ℕ) (r : Stepped) : Type 0 where
-  pub found : numberOf (steppedOutcome r) ≡ 0 → Looks p x I A U r
+  pub accepted : numberOf (steppedOutcome r) ≡ 0 → Looks p x I A U r
   pub alone : U ≡ 0 → numberOf (steppedOutcome r) ≢ 66 → Looks p x I A U r
   pub ample : 7810 ≤ room → numberOf (steppedOutcome r) ≢ 66

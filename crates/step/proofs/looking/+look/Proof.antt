@@ -102,7 +102,7 @@ module _ (t : ℕ) where
   returns : look-lts.Need-returns (claims t) (look-at t) look.Post
   returns c =
       let at-refusal2 = c .before in
-      tried t (at-refusal2 .before) .found (sym (at-refusal2 .refusal2 .ensures) ∙ c .if2 .taken)
+      tried t (at-refusal2 .before) .accepted (sym (at-refusal2 .refusal2 .ensures) ∙ c .if2 .taken)
 
   returns-2 : look-lts.Need-returns-2 (claims t) (look-at t) look.Post
   returns-2 c = attempts-alone (tried t (c .before .before .before)) (c .if3 .taken)

@@ -1,6 +1,4 @@
 -- One list of rows, if it is tried and the area has room.
-use mathlib.Core.Path.{_≡_}
-use Prim.Native.Nat.{ℕ}
 use native.Mathlib.Omega.{arith}
 use Rattle.sets.proofs.Counts.{count-width}
 use Rattle.table.specs.inner.Places.{statementOf}
