@@ -18,43 +18,43 @@ use Rattle.table.proofs.Cutting.{length-nodesOf}
 use Rattle.table.proofs.Accepted.{read-faithful, Holds, accepted}
 use Rattle.table.proofs.Places.{placed-front}
 
--- ---- The walk over a whole table
-module _ (n : ℕ) (xs : List ℕ) (count : length xs ≡ n) (r at used : ℕ) where
+-- ---- The walk over all nodes from a place to another
+module _ (from to : ℕ) (xs : List ℕ) (below : from ≤ to) (count : length xs ≡ to - from) (r at used : ℕ) where
   abbrev whole : Reading
   whole = readFrom deepest 0 0 xs
 
-  module _ (h : Walked n whole r at used) where
-    pub whole-refused : (r ≡ 0 → ⊥) → checkedOutcome (Refused r) ≡ checkIn (wholeOf n whole)
+  module _ (h : Walked to whole r at used) where
+    pub whole-refused : (r ≡ 0 → ⊥) → checkedOutcome (Refused r) ≡ checkIn (wholeOf (to - from) whole)
     unfolding wholeOf checkIn checkedOutcome
     whole-refused d = go whole h
       where
-        go : (q : Reading) → Walked n q r at used → checkedOutcome (Refused r) ≡ checkIn (wholeOf n q)
+        go : (q : Reading) → Walked to q r at used → checkedOutcome (Refused r) ≡ checkIn (wholeOf (to - from) q)
         go (refused w) g = ap refusal (g .0)
         go (read p [] u) g = absurd (d (g .0))
         go (read p (y ∷ ys) u) g = absurd (d (g .0))
 
     module _ (z : r ≡ 0) where
-      pub whole-over : (at ≡ n → ⊥) → checkedOutcome (Refused 11) ≡ checkIn (wholeOf n whole)
+      pub whole-over : (at ≡ to → ⊥) → checkedOutcome (Refused 11) ≡ checkIn (wholeOf (to - from) whole)
       unfolding wholeOf checkIn checkedOutcome
       whole-over d = go whole h
         where
-          go : (q : Reading) → Walked n q r at used → checkedOutcome (Refused 11) ≡ checkIn (wholeOf n q)
+          go : (q : Reading) → Walked to q r at used → checkedOutcome (Refused 11) ≡ checkIn (wholeOf (to - from) q)
           go (refused w) g = absurd (let (e, l) = g in omega arith)
           go (read p [] u) g = absurd (d (let e = g .1 in omega arith))
           go (read p (y ∷ ys) u) g = refl
 
-      pub whole-read : at ≡ n → checkedOutcome (Accepted n) ≡ checkIn (wholeOf n whole)
+      pub whole-read : at ≡ to → checkedOutcome (Accepted (to - from)) ≡ checkIn (wholeOf (to - from) whole)
       unfolding wholeOf checkIn checkedOutcome
       whole-read e = go whole refl h
         where
-          go : (q : Reading) → whole ≡ q → Walked n q r at used → checkedOutcome (Accepted n) ≡ checkIn (wholeOf n q)
+          go : (q : Reading) → whole ≡ q → Walked to q r at used → checkedOutcome (Accepted (to - from)) ≡ checkIn (wholeOf (to - from) q)
           go (refused w) i g = absurd (let (e, l) = g in omega arith)
           go (read p [] u) i g = refl
           go (read p (y ∷ ys) u) i g =
               let here : xs ≡ nodes p ++ (y ∷ ys) = read-faithful deepest 0 0 xs p (y ∷ ys) u i .here in
               let all : length xs ≡ length (nodes p ++ (y ∷ ys)) = ap length here in
               let parts : length (nodes p ++ (y ∷ ys)) ≡ length (nodes p) + suc (length ys) = length-append (nodes p) (y ∷ ys) in
-              let place : at ≡ n - suc (length ys) = g .1 in
+              let place : at ≡ to - suc (length ys) = g .1 in
               absurd (omega arith)
 
 -- ---- The header refuses, or accepts n nodes
@@ -63,11 +63,12 @@ unfolding checkOf tableOf tableAfter checkIn checkedOutcome loadedOf loadedAfter
 load-refused t old h w e r = (rw (← e, r), rw (← e, r))
 
 pub load-walked : (t old new : List ℕ) (n : ℕ) (r : Checked) → headerOf t ≡ Accepted n → new ≡ nodesOf t n ++ drop n old
-    → checkedOutcome r ≡ checkIn (wholeOf n (readFrom deepest 0 0 (take n new))) → (checkedOutcome r ≡ checkOf t) × (new ≡ loadedOf t old)
+    → checkedOutcome r ≡ checkIn (wholeOf (n - 0) (readFrom deepest 0 0 (drop 0 (take n new)))) → (checkedOutcome r ≡ checkOf t) × (new ≡ loadedOf t old)
 unfolding checkOf tableOf tableAfter loadedOf loadedAfter
 load-walked t old new n r h e a =
     let front : take n new ≡ nodesOf t n = ap (take n) e ∙ take-at (nodesOf t n) (drop n old) n (length-nodesOf t n) in
-    (rw h (a ∙ ap (λ (l : List ℕ). checkIn (wholeOf n (readFrom deepest 0 0 l))) front), rw h e)
+    let none : n - 0 ≡ n = omega arith in
+    (rw h (a ∙ ap₂ (λ (m : ℕ) (l : List ℕ). checkIn (wholeOf m (readFrom deepest 0 0 l))) none front), rw h e)
 
 -- ---- The nodes of a statement, by their kinds
 abbrev Fine : ℕ → Type 0

@@ -17,6 +17,7 @@ pub use kinds::TRY;
 pub use kinds::kind_of;
 pub use kinds::operand_of;
 pub use reading::check;
+pub use reading::check_nodes;
 pub use reading::count_in;
 pub use reading::load;
 pub use reading::refusal;

@@ -20,7 +20,7 @@ use esterel::Level;
 ghost use mathlib.Core.Path.{_≡_};
 ghost use mathlib.Core.Bool.{cond, _||_};
 ghost use mathlib.Core.List.{_++_};
-ghost use Prim.Native.Nat.{_+_, _/_, _%_, _^_, _≤_, _<_};
+ghost use Prim.Native.Nat.{_+_, _-_, _/_, _%_, _^_, _≤_, _<_};
 ghost use lib.Dec.{eqb, ltb};
 ghost use lib.ListN.{length, take, drop};
 ghost use Rattle.sets.specs.Set.{has};
@@ -232,22 +232,23 @@ fn walk(
     walk(nodes, n, left - 1, inside, at, used, rows)
 }
 
-// Tests 6 to 11, on the first n nodes.
-fn walk_all(nodes: &[u16; MOST_NODES], n: u16) -> Checked
-    requires { ⌜ (n ≤ 1024) × (length (now nodes) ≡ 1024) ⌝ }
-    ensures { λ r. ⌜ checkedOutcome r ≡ checkIn (wholeOf n (readFrom deepest 0 0 (take n (now (nodes .entry))))) ⌝ }
+// Tests 6 to 11, on the nodes from one place to another.
+pub fn check_nodes(nodes: &[u16; MOST_NODES], from: usize, to: usize) -> Checked
+    requires { ⌜ (from ≤ to) × (to ≤ 1024) × (length (now nodes) ≡ 1024) ⌝ }
+    ensures { λ r. ⌜ checkedOutcome r ≡ checkIn (wholeOf (to - from) (readFrom deepest 0 0 (drop from (take to (now (nodes .entry)))))) ⌝ }
 {
-    let count = n as usize;
-    let mut at = 0;
+    let mut at = from;
     let mut used = 0;
     let rows = KINDS;
-    let why = walk(nodes, count, DEEPEST, 0, &mut at, &mut used, &rows);
+    let why = walk(nodes, to, DEEPEST, 0, &mut at, &mut used, &rows);
     if why != 0 {
         return Checked::Refused(why);
     }
-    if at != count {
+    if at != to {
         return Checked::Refused(11);
     }
+    let count = to - from;
+    let n = count as u16;
     Checked::Accepted(n)
 }
 
@@ -259,8 +260,9 @@ pub fn load(table: &[u8], nodes: &mut [u16; MOST_NODES]) -> Checked
     let Checked::Accepted(n) = head else {
         return head;
     };
-    decode(table, n as usize, nodes);
-    walk_all(nodes, n)
+    let count = n as usize;
+    decode(table, count, nodes);
+    check_nodes(nodes, 0, count)
 }
 
 // Whether the bytes are a table: the number of the refusal, or the node count.

@@ -16,7 +16,7 @@ use Rattle.esterel.proofs.Validity.{valid-trimmed, size-trimmed}
 use Rattle.table.specs.declared.Checked.{Checked}
 use Rattle.table.specs.declared.Checked.the-variants as checked
 use Rattle.table.specs.Bits.{Below}
-use Rattle.table.specs.Outcomes.{Outcome, refusal, values, numberOf}
+use Rattle.table.specs.Outcomes.{Outcome, refusal, values, numberOf, bufferAfter}
 use Rattle.table.specs.Reading.{Table, refused, holds, tableOf, checkedOutcome, checkIn, checkOf, deepest}
 use Rattle.table.specs.inner.Loading.{loadedOf}
 use Rattle.table.specs.inner.Places.{statementOf, Known}
@@ -30,7 +30,7 @@ use Rattle.trim.specs.declared.work.Laid.the-variants as laid-as
 use Rattle.trim.specs.declared.work.Part.{Part}
 use Rattle.trim.specs.declared.Trimmed.{Trimmed}
 use Rattle.trim.specs.declared.Trimmed.the-variants.{Refused, Accepted}
-use Rattle.trim.specs.Answers.{trimmedOutcome, trimFor, bufferAfter, trimIn, bufferIn, trimOf, bufferOf}
+use Rattle.trim.specs.Answers.{trimmedOutcome, trimFor, trimIn, bufferIn, trimOf, bufferOf}
 use Rattle.trim.specs.inner.Root.{Ends, LaidOut, EndFits, Finished}
 
 -- ---- where the trimmed statement stands
@@ -126,7 +126,7 @@ trimmed-reads t out n bytes = go (tableOf t) refl
         let a = accepted t m p e in
         let (allowed, count, long) = allowed-trimmed p (a .valid) (a .deep) (length out) n bytes h in
         let left : bufferOf t out ≡ write (trimmed p) ++ drop (length (write (trimmed p))) out =
-        ap (λ (T : Table). bufferIn T out) e ∙ ap (λ (v : Outcome). bufferAfter v (trimmed p) out) h in
+        ap (λ (T : Table). bufferIn T out) e ∙ ap (λ (v : Outcome). bufferAfter v (write (trimmed p)) out) h in
         let begins : writtenFront t out bytes ≡ write (trimmed p) =
         ap (take bytes) left ∙ take-at (write (trimmed p)) (drop (length (write (trimmed p))) out) bytes (sym long) in
         let reads : tableOf (writtenFront t out bytes) ≡ holds n (trimmed p) =

@@ -11,10 +11,10 @@ use Rattle.esterel.specs.Reachability.{nextR, reachFrom, reach}
 use Rattle.esterel.specs.Trimming.{isNothing, joinParts, names, endsAt, shiftLevel, shiftExits, canEnd, trimLoop, trimSignal, trimPresent, trimTry, trim, trimmed}
 use Rattle.table.specs.Kinds.{kinds, kindOf, rowOf}
 use Rattle.table.specs.Bits.{bits, numberAfter, number, bitsOf, bytesFrom, padded, bytesOf}
-use Rattle.table.specs.Outcomes.{refusal, values}
+use Rattle.table.specs.Outcomes.{refusal, values, bufferAfter}
 use Rattle.table.specs.Reading.{lengthOf, editionOf, countOf, paddingOf, headerOf, nodesFrom, nodesOf, faultOf, readKind, readNode, readFrom, wholeOf, tableAfter, tableOf}
 use Rattle.table.specs.Writing.{nodes, nodeBits, writeNodes, write}
-use Rattle.trim.specs.Answers.{trimFor, bufferAfter, trimIn, bufferIn, trimOf, bufferOf}
+use Rattle.trim.specs.Answers.{trimFor, trimIn, bufferIn, trimOf, bufferOf}
 
 -- ---- case G, as bytes: no copy, no refusal, not nothing; the inner try stays with its exit, and what follows the exit goes
 

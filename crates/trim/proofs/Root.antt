@@ -14,7 +14,7 @@ use Rattle.sets.proofs.Booleans.{or-left, or-right, eqb-differ}
 use Rattle.esterel.specs.Statement.{Statement, size, depth, Valid}
 use Rattle.esterel.specs.Trimming.{isNothing, trimmed}
 use Rattle.esterel.proofs.Validity.{valid-trimmed, size-trimmed}
-use Rattle.table.specs.Outcomes.{refusal, values}
+use Rattle.table.specs.Outcomes.{refusal, values, bufferAfter}
 use Rattle.table.specs.Reading.{lengthOf, deepest}
 use Rattle.table.specs.inner.Places.{statementAt, statementOf, Loaded}
 use Rattle.table.specs.Writing.{nodes, writeNodes, write}
@@ -34,7 +34,7 @@ use Rattle.trim.specs.inner.Levels.{levelOut, trimmedIn}
 use Rattle.trim.specs.inner.Notes.{Noted}
 use Rattle.trim.specs.inner.Marking.{Markable, Marks}
 use Rattle.trim.specs.inner.Parts.{part, PartStands, NothingFilled, reachSetOf, Trimmable, Done}
-use Rattle.trim.specs.Answers.{trimmedOutcome, trimFor, bufferAfter}
+use Rattle.trim.specs.Answers.{trimmedOutcome, trimFor}
 use Rattle.trim.specs.inner.Root.{Lent, Ends, EndFits, Finished}
 use Rattle.trim.proofs.Levels.{map-closed}
 use Rattle.trim.proofs.Refused.{no-name}
@@ -149,7 +149,7 @@ module _ (p : Part) (work out : List ℕ) where
     unfolding write
     long = length-writeNodes (nodes t) ∙ ap lengthOf (length-nodes t ∙ counted)
 
-    refused-12 : (ltb 1024 (size t) || ltb deepest (depth t)) ≡ true → (refusal 12 ≡ trimFor t (length out)) × (out ≡ bufferAfter (trimFor t (length out)) t out)
+    refused-12 : (ltb 1024 (size t) || ltb deepest (depth t)) ≡ true → (refusal 12 ≡ trimFor t (length out)) × (out ≡ bufferAfter (trimFor t (length out)) (write t) out)
     unfolding trimFor bufferAfter
     refused-12 h = (rw h, rw h)
 

@@ -1,12 +1,12 @@
 -- What trim answers, and what it leaves in the caller's buffer, for all bytes and every buffer.
 use Prim.Native.Nat.{ℕ}
 use mathlib.Core.Bool.{cond, _||_}
-use mathlib.Core.List.{List, [], _∷_, _++_}
+use mathlib.Core.List.{List, [], _∷_}
 use lib.Dec.{ltb}
-use lib.ListN.{length, drop}
+use lib.ListN.{length}
 use Rattle.esterel.specs.Statement.{Statement, size, depth}
 use Rattle.esterel.specs.Trimming.{trimmed}
-use Rattle.table.specs.Outcomes.{Outcome, refusal, values}
+use Rattle.table.specs.Outcomes.{Outcome, refusal, values, bufferAfter}
 use Rattle.table.specs.Reading.{Table, refused, holds, tableOf, deepest}
 use Rattle.table.specs.Writing.{write}
 use Rattle.trim.specs.declared.Trimmed.{Trimmed}
@@ -24,19 +24,15 @@ trimFor q room =
     cond (ltb 1024 (size q) || ltb deepest (depth q)) (refusal 12)
     (cond (ltb room (length (write q))) (refusal 13) (values (size q ∷ length (write q) ∷ [])))
 
--- "the output begins with the table, the rest of it is untouched"; a refusal leaves all of it untouched
-unfoldable pub bufferAfter : Outcome → Statement → List ℕ → List ℕ
-bufferAfter (refusal w) q out = out
-bufferAfter (values vs) q out = write q ++ drop (length (write q)) out
-
 -- "Check's refusals"; else what the trimmed statement of the table comes to
 unfoldable pub trimIn : Table → ℕ → Outcome
 trimIn (refused w) room = refusal w
 trimIn (holds n p) room = trimFor (trimmed p) room
 
+-- "the output begins with the table"
 unfoldable pub bufferIn : Table → List ℕ → List ℕ
 bufferIn (refused w) out = out
-bufferIn (holds n p) out = bufferAfter (trimFor (trimmed p) (length out)) (trimmed p) out
+bufferIn (holds n p) out = bufferAfter (trimFor (trimmed p) (length out)) (write (trimmed p)) out
 
 -- what trim answers, and the buffer as it returns
 unfoldable pub trimOf : List ℕ → ℕ → Outcome

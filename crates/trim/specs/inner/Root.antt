@@ -6,12 +6,13 @@ use mathlib.Core.List.{List}
 use lib.ListN.{length, getD, drop}
 use Rattle.esterel.specs.Statement.{Statement, size, depth}
 use Rattle.table.specs.Bits.{Below}
-use Rattle.table.specs.Writing.{nodes}
+use Rattle.table.specs.Outcomes.{bufferAfter}
+use Rattle.table.specs.Writing.{nodes, write}
 use Rattle.trim.specs.declared.work.Laid.{Laid}
 use Rattle.trim.specs.declared.work.Laid.the-variants.{At}
 use Rattle.trim.specs.declared.work.Part.{Part}
 use Rattle.trim.specs.declared.Trimmed.{Trimmed}
-use Rattle.trim.specs.Answers.{trimmedOutcome, trimFor, bufferAfter}
+use Rattle.trim.specs.Answers.{trimmedOutcome, trimFor}
 
 -- room for trimming the nodes of a table
 pub record Lent (notes places work : List ℕ) : Type 0 where
@@ -42,4 +43,4 @@ pub record EndFits (part : Part) (work : List ℕ) : Type 0 where
 -- the end of trimming, whatever statement stands there
 unfoldable pub Finished : List ℕ → Part → List ℕ → Trimmed → List ℕ → Type 0
 Finished work part out r out′ =
-    (q : Statement) → Ends q part work → (trimmedOutcome r ≡ trimFor q (length out)) × (out′ ≡ bufferAfter (trimFor q (length out)) q out)
+    (q : Statement) → Ends q part work → (trimmedOutcome r ≡ trimFor q (length out)) × (out′ ≡ bufferAfter (trimFor q (length out)) (write q) out)

@@ -1,4 +1,4 @@
--- `table::load` meets its contract: by what the header and the walk gave (proofs/Loading).
+-- `table::load` meets its contract: by what the header and the nodes gave (proofs/Loading).
 use mathlib.Core.Path.{_≡_, sym, _∙_}
 use mathlib.Core.List.{List}
 use Prim.Native.Nat.{ℕ, _≤_}
@@ -46,8 +46,8 @@ returns c =
     let s = h .before .before in
     load-refused (s .args .table .now) (s .args .nodes .now) (h .header .result) (c .enum-told .given .0 .0) (h .header .ensures) (c .enum-told .given .1)
 
-cast-decode : tie.Need-cast-decode
-cast-decode c = search needs
+cast-count : tie.Need-cast-count
+cast-count c = search needs
 
 decode-requires : tie.Need-decode-requires
 decode-requires c κs =
@@ -55,16 +55,16 @@ decode-requires c κs =
     let few : count (c .before .before) ≤ 1024 = h .few in
     (few, h .whole, omega arith)
 
-walk-all-requires : tie.Need-walk-all-requires
-walk-all-requires c κs =
+check-nodes-requires : tie.Need-check-nodes-requires
+check-nodes-requires c κs =
     let h = headed (c .before .before .before .before) in
-    (h .few, omega arith)
+    (omega arith, h .few, omega arith)
 
 returns-2 : tie.Need-returns-2
 returns-2 c =
     let d = c .before .before in
     let h = d .before .before .before in
-    load-walked (bytes h) (old h) (d .decode .last .1 .1 .0) (count h) (c .walk-all .result) (accepted h) (d .decode .ensures) (c .walk-all .ensures)
+    load-walked (bytes h) (old h) (d .decode .last .1 .1 .0) (count h) (c .check-nodes .result) (accepted h) (d .decode .ensures) (c .check-nodes .ensures)
 
 pub load-spec : {M : Type 1} → statement M
 load-spec =
@@ -74,7 +74,7 @@ load-spec =
     enum-known-head
     enum-told
     returns
-    cast-decode
+    cast-count
     decode-requires
-    walk-all-requires
+    check-nodes-requires
     returns-2)
