@@ -1,0 +1,13 @@
+pub mod Complete
+pub mod Sound
+pub mod Written
+pub mod Fewest
+pub mod Decimal
+pub mod Spelling
+pub mod Lexer
+pub mod Texts
+pub mod Reading
+pub mod Refusals
+pub mod Theorems
+pub mod Outcomes
+pub mod Examples
