@@ -1,0 +1,9 @@
+pub mod TopDown
+pub mod Written
+pub mod Putting
+pub mod Words
+pub mod Texts
+pub mod Standing
+pub mod Lengths
+pub mod Passing
+pub mod Answers
