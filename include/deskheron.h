@@ -1,4 +1,4 @@
-/* Deskheron: proved operations on Esterel* programs held as node tables.
+/* Deskheron: proved operations on Esterel* programs held as node tables or as texts.
    Link target/staticlib/libdeskheron.a. docs/c-interface.md says how results pass. */
 #ifndef DESKHERON_H
 #define DESKHERON_H
@@ -40,6 +40,13 @@ uint32_t deskheron_list(const uint8_t *table, size_t table_len,
 uint32_t deskheron_step(const uint8_t *table, size_t table_len,
                         uint32_t provided, uint32_t mark, uint64_t labels,
                         uint32_t *answer, uint32_t *assumed, uint32_t *emitted, uint32_t *code, uint64_t *reached);
+
+/* The table of a text goes to the front of out; bytes is its length. A text is the bytes of a statement without anything
+   behind it, also without a line feed or a zero byte. It may be of any length. */
+uint32_t deskheron_read_text(const uint8_t *text, size_t text_len, uint8_t *out, size_t out_len, size_t *bytes);
+
+/* The text of a table goes to the front of out, without a line feed or a zero byte; bytes is its length. */
+uint32_t deskheron_write_text(const uint8_t *table, size_t table_len, uint8_t *out, size_t out_len, size_t *bytes);
 
 #ifdef __cplusplus
 }

@@ -21,11 +21,11 @@ use Rattle.esterel.proofs.Listing.{list-is-listing}
 use Rattle.esterel.proofs.Bounds.{Narrow, reaction-narrow}
 use Rattle.esterel.proofs.Runs.{same-runs}
 use Rattle.esterel.proofs.Indistinguishable.{same-listings}
-use Rattle.table.specs.Outcomes.{refusal, values}
+use Rattle.table.specs.Outcomes.{refusal, values, bufferAfter}
 use Rattle.table.specs.Reading.{Table, tableOf, holds, deepest}
 use Rattle.table.specs.Writing.{write}
 use Rattle.table.proofs.RoundTrip.{read-written}
-use Rattle.trim.specs.Answers.{trimFor, trimIn, trimOf, bufferAfter, bufferIn, bufferOf}
+use Rattle.trim.specs.Answers.{trimFor, trimIn, trimOf, bufferIn, bufferOf}
 use Rattle.list.specs.Answers.{Listing, refused, listed, listFor, listIn, fitted, listOf, listingOutcome, written}
 use Rattle.list.specs.Buffers.{emittedIn, codeIn, reachedIn, front}
 use Rattle.deskheron.specs.Demand.{Layout, placesOf, filled, groupAt, Call, For, calledOn, Groups, standsAt, readBack, Stands, ThirdDemand}
@@ -192,7 +192,7 @@ module _ (t : List ℕ) (s : ℕ) (p : Statement) (h : tableOf t ≡ holds s p) 
   trims out sizes e =
       let a : trimFor q (length out) ≡ values sizes = ap (λ T. trimIn T (length out)) (sym h) ∙ e in
       let f = accepted-fits q (length out) sizes a in
-      let b : bufferOf t out ≡ u ++ drop (length u) out = ap (λ T. bufferIn T out) h ∙ ap (λ z. bufferAfter z q out) a in (
+      let b : bufferOf t out ≡ u ++ drop (length u) out = ap (λ T. bufferIn T out) h ∙ ap (λ z. bufferAfter z (write q) out) a in (
         ap (take (length u)) b ∙ take-at u (drop (length u) out) (length u) refl,
         read-written q (record { valid = valid-q t s p h; few = f .0; deep = f .1 }),
       )

@@ -14,6 +14,8 @@ use Rattle.list.specs.Answers.{listOf, listingOutcome}
 use Rattle.list.proofs.Refusals.{zero-listed}
 use Rattle.step.specs.Answers.{stepOf}
 use Rattle.step.proofs.Refusals.{zero-stepped}
+use Rattle.text.specs.Answers.{readOf, writeOf}
+use Rattle.text.proofs.Outcomes.{zero-read, zero-written}
 
 -- 0 is returned for this outcome only where there are values
 abbrev pub AcceptedByZero : Outcome → Type 0
@@ -25,6 +27,8 @@ pub record Entries (t : List ℕ) : Type 0 where
   pub trim : (room : ℕ) → AcceptedByZero (trimOf t room)
   pub list : (E mark X o k l : ℕ) → AcceptedByZero (listingOutcome (listOf t E mark X o k l))
   pub step : (I mark X : ℕ) → AcceptedByZero (stepOf t I mark X)
+  pub read-text : (room : ℕ) → AcceptedByZero (readOf t room)
+  pub write-text : (room : ℕ) → AcceptedByZero (writeOf t room)
 
 pub zero-accepts : (t : List ℕ) → Entries t
 unfolding listingOutcome
@@ -34,4 +38,6 @@ zero-accepts t = record {
   trim = trim-accepted t;
   list = λ E mark X o k l z. let (ts, e) = zero-listed t E mark X o k l z in (length ts ∷ [], ap listingOutcome e);
   step = zero-stepped t;
+  read-text = zero-read t;
+  write-text = zero-written t;
 }

@@ -14,6 +14,7 @@ ghost use Rattle.reach.specs.Answers.{reachOf};
 ghost use Rattle.trim.specs.Answers.{trimOf, bufferOf};
 ghost use Rattle.list.specs.Answers.{listOf};
 ghost use Rattle.step.specs.Answers.{stepOf};
+ghost use Rattle.text.specs.Answers.{readOf, readBuffer, writeOf, writeBuffer};
 ghost use Rattle.deskheron.specs.Answers.{ListEntered};
 
 // The answers of step: one with its E, O, k and L; none; several.
@@ -162,4 +163,34 @@ pub extern "C" fn deskheron_step(
             0
         }
     }
+}
+
+// Reads a text: its table at the front of the buffer, and the table's length.
+#[no_mangle]
+pub extern "C" fn deskheron_read_text(text: &[u8], out: &mut [u8], bytes: &mut usize) -> u32
+    ensures { λ r. ⌜ r ≡ numberOf (readOf (now (text .entry)) (length (now (out .entry)))) ⌝ }
+    ensures { λ r. ⌜ now (out .exit) ≡ readBuffer (now (text .entry)) (now (out .entry)) ⌝ }
+    ensures { λ r. ⌜ now (bytes .exit) ≡ cellAfter (readOf (now (text .entry)) (length (now (out .entry)))) 0 (now (bytes .entry)) ⌝ }
+{
+    let answer = reader::read(text, out);
+    let text::Answer::Written(length) = answer else {
+        return text::refusal(answer) as u32;
+    };
+    *bytes = length;
+    0
+}
+
+// Writes a table as text: its text at the front of the buffer, and the text's length.
+#[no_mangle]
+pub extern "C" fn deskheron_write_text(table: &[u8], out: &mut [u8], bytes: &mut usize) -> u32
+    ensures { λ r. ⌜ r ≡ numberOf (writeOf (now (table .entry)) (length (now (out .entry)))) ⌝ }
+    ensures { λ r. ⌜ now (out .exit) ≡ writeBuffer (now (table .entry)) (now (out .entry)) ⌝ }
+    ensures { λ r. ⌜ now (bytes .exit) ≡ cellAfter (writeOf (now (table .entry)) (length (now (out .entry)))) 0 (now (bytes .entry)) ⌝ }
+{
+    let answer = writer::write(table, out);
+    let text::Answer::Written(count) = answer else {
+        return text::refusal(answer) as u32;
+    };
+    *bytes = count;
+    0
 }
