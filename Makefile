@@ -3,12 +3,13 @@
 #   make test    the tests, then the whole gate, whose last line counts what passed
 #   make long    over ten million calls of the library compared with the second implementation
 #   make speed   times the library against plain Rust
+#   make samples writes the tables of the texts in samples/
 # All that is built stands under target/.
 
 SHELL := /bin/bash -o pipefail
 MAKEFLAGS += --no-print-directory
 .NOTPARALLEL:
-.PHONY: all test long speed tools library report second bench compared memory stack shipped
+.PHONY: all test long speed samples tools library report second bench compared memory stack shipped
 
 BEGUN := $(shell date +%s)
 CARGO := CARGO_TARGET_DIR=target/second cargo build --quiet --offline --locked --manifest-path second/Cargo.toml
@@ -40,10 +41,17 @@ memory: tools library second
 stack: tools library bench
 	@target/bench/stack $(STACK)
 
-# The bench program on its own tables, and its status for what it cannot read.
+# The bench program on its own texts, its status for what is refused, and the tables that it makes of the samples.
 shipped: tools library bench
 	@$(BENCH) | diff bench/shipped.out - && echo "bench prints bench/shipped.out"
 	@! $(BENCH) samples/cut.table > target/bench/cut && grep -q 'refused 4' target/bench/cut
+	@echo 'nothing ;' > target/bench/cut.txt && ! $(BENCH) target/bench/cut.txt > target/bench/cut && grep -q 'refused 18' target/bench/cut
+	@for text in samples/*.txt; do \
+		$(BENCH) -t $$text target/bench/made.table && cmp target/bench/made.table $${text%.txt}.table || exit 1; \
+	done; echo "the tables in samples/ are those of the texts"
+
+samples: tools library bench
+	@for text in samples/*.txt; do $(BENCH) -t $$text $${text%.txt}.table || exit 1; done
 
 long: tools report library second
 	@$(SECOND) --long

@@ -1,13 +1,15 @@
-/* Calls the five operations on tables and prints their results for a person to read.
+/* Calls the operations on texts and tables and prints their results for a person to read.
  *
- *   bench                          the tables that it ships
+ *   bench                          the texts that it ships
  *   bench [-e N,..] [-i N,..] [-l N,..] FILE...
- *                                  tables in files; -e the signals assumed by list and -i those
- *                                  provided to step (none without them), -l the labels to resume
- *                                  from (without it, the start and the states that follow)
+ *                                  texts in files that end in .txt, their own last line feed left
+ *                                  out, and tables in others; -e the signals assumed by list and -i
+ *                                  those provided to step (none without them), -l the labels to
+ *                                  resume from (without it, the start and the states that follow)
+ *   bench -t TEXT TABLE            writes the table of the text in a file to another
  *
  * The status is 0 where nothing was refused, 1 where something was, 2 for bad arguments and files
- * that cannot be read.
+ * that cannot be read or written.
  */
 #include <inttypes.h>
 #include <stdbool.h>
@@ -17,7 +19,7 @@
 
 #include "deskheron.h"
 
-enum { MOST_BYTES = 1282, MOST_REACTIONS = 64, MOST_STATES = 8 };
+enum { MOST_NODES = 1024, MOST_BYTES = 1282, MOST_TEXT = 20 * MOST_NODES, MOST_REACTIONS = 64, MOST_STATES = 8 };
 
 struct table {
     const char *name;
@@ -31,31 +33,38 @@ struct signals {
     uint32_t assumed, provided;
 };
 
-/* Texts of these stand in samples/. Each is shown with these signals unless -e or -i gives others. */
+/* These stand in samples/ too. Each is shown with these signals unless -e or -i gives others. */
 static const struct {
     struct signals signals;
-    struct table table;
+    const char *name, *text;
 } shipped[] = {
-    {{1 << 0 | 1 << 2 | 1 << 4, 1 << 0},
-     {"lamp", 26, {
-       0x10, 0x13, 0x70, 0x28, 0x07, 0x02, 0x40, 0x70, 0x04, 0x16, 0x01, 0x81, 0x00, 0x1c, 0x03, 0x09,
-       0xc0, 0x10, 0x98, 0x30, 0x01, 0x01, 0x00, 0x0c, 0x23, 0x10}}},
-    {{0, 0},
-     {"exits", 12, {
-       0x10, 0x08, 0xa0, 0x20, 0x07, 0x00, 0x41, 0x40, 0x5c, 0x01, 0x08, 0x43}}},
-    {{1 << 0 | 1 << 1, 1 << 0},
-     {"expanded", 32, {
-       0x10, 0x18, 0x70, 0x28, 0x07, 0x01, 0x01, 0xa0, 0x1c, 0x06, 0x01, 0xc0, 0x10, 0x50, 0x10, 0x01,
-       0xc0, 0x10, 0x8c, 0x1a, 0x01, 0xc0, 0x60, 0x1c, 0x02, 0x05, 0x01, 0x00, 0x1c, 0x02, 0x08, 0xc1}}},
-    {{1 << 1, 0},
-     {"grown", 14, {
-       0x10, 0x09, 0x70, 0x20, 0x02, 0x04, 0x82, 0x70, 0x18, 0x01, 0x04, 0x42, 0x30, 0x40}}},
-    {{0, 0},
-     {"either", 6, {
-       0x10, 0x03, 0x60, 0x0c, 0x00, 0x00}}},
-    {{0, 0},
-     {"endless", 5, {
-       0x10, 0x02, 0x90, 0x00, 0x00}}},
+    {{1 << 0 | 1 << 2 | 1 << 4, 1 << 0}, "lamp",
+     "try\n"
+     "  loop\n"
+     "    1:pause ;\n"
+     "    present S0 then\n"
+     "      present S1 else\n"
+     "        emit S2 ; 2:pause ; present S3 else exit 1 end\n"
+     "      end\n"
+     "    end\n"
+     "  end ;\n"
+     "  emit S2\n"
+     "end ;\n"
+     "emit S4"},
+    {{0, 0}, "exits",
+     "try 1:pause ; exit 1 || 2:pause ; 3:pause end"},
+    {{1 << 0 | 1 << 1, 1 << 0}, "expanded",
+     "try\n"
+     "  exit 1 ;\n"
+     "  try present S0 then 1:pause ; exit 1 end ; 2:pause ; emit S1 end\n"
+     "end ;\n"
+     "try present S0 then gotopause 1 ; exit 1 end ; gotopause 2 ; emit S1 end"},
+    {{1 << 1, 0}, "grown",
+     "[gotopause 1 || gotopause 2] ; present S0 then 1:pause else 2:pause end ; emit S1"},
+    {{0, 0}, "either",
+     "present S0 then emit S0 end"},
+    {{0, 0}, "endless",
+     "loop nothing end"},
 };
 
 static const char *const reasons[] = {
@@ -65,6 +74,7 @@ static const char *const reasons[] = {
     "the trimmed table is too large", "the output buffer is too short",
     "over 12 signals inside one another", "a list has over 64 reactions",
     "a result buffer is too short", "over 10 signals emitted outside a declaration of them",
+    "the text breaks the grammar or its depth", "a number is out of its kind's range",
 };
 
 /* Set once an operation refuses. */
@@ -120,8 +130,94 @@ static void reach(const struct table *t)
     putchar('\n');
 }
 
+/* A text in lines, which reads as the same statement. */
+struct layout {
+    size_t count, width, used;
+    const char *lines[MOST_TEXT];
+    /* each line has up to two spaces for each bracket and each `end` around it */
+    char bytes[128 * MOST_TEXT];
+};
+
+static bool is_one(const char *part, const char *const parts[])
+{
+    while (*parts != NULL && strcmp(part, *parts) != 0)
+        parts++;
+    return *parts != NULL;
+}
+
+static void end_line(struct layout *layout)
+{
+    size_t width = strlen(layout->lines[layout->count]);
+    layout->width = width > layout->width ? width : layout->width;
+    layout->used++;
+    layout->count++;
+}
+
+/* Lays out a text as it is written, with one space between two parts. */
+static void lay_out(struct layout *layout, char *text)
+{
+    static const char *const openers[] = {"loop", "try", "[", "in", "then", "else", NULL};
+    static const char *const closers[] = {"end", "]", "else", NULL};
+    int indent = 0;
+    bool fresh = true;
+    layout->count = layout->width = layout->used = 0;
+    for (char *part = strtok(text, " "); part != NULL; part = strtok(NULL, " ")) {
+        bool opens = is_one(part, openers), closes = is_one(part, closers), bars = strcmp(part, "||") == 0;
+        if (!fresh && (closes || bars)) {
+            end_line(layout);
+            fresh = true;
+        }
+        indent -= closes ? 2 : 0;
+        char *at = layout->bytes + layout->used;
+        if (fresh)
+            layout->lines[layout->count] = at;
+        layout->used += (size_t)sprintf(at, "%*s%s", fresh ? indent : 1, "", part);
+        indent += opens ? 2 : 0;
+        fresh = opens || bars || strcmp(part, ";") == 0;
+        if (fresh)
+            end_line(layout);
+    }
+    if (!fresh)
+        end_line(layout);
+}
+
+/* How many lines on from one of them the next stands that is like another's; SIZE_MAX where none does. */
+static size_t ahead(const struct layout *in, size_t from, const struct layout *of, size_t line)
+{
+    for (size_t i = from; line < of->count && i < in->count; i++)
+        if (strcmp(in->lines[i], of->lines[line]) == 0)
+            return i - from;
+    return SIZE_MAX;
+}
+
+/* Two texts side by side, like lines in one row; < marks what only the left has, > what only the right. */
+static void print_beside(const struct layout *left, const struct layout *right)
+{
+    int width = (int)left->width;
+    for (size_t i = 0, j = 0; i < left->count || j < right->count;) {
+        size_t gone = ahead(left, i, right, j), come = ahead(right, j, left, i);
+        if (gone == 0)
+            printf("         %-*s   %s\n", width, left->lines[i++], right->lines[j++]);
+        else if (i < left->count && gone <= come)
+            printf("         %-*s <\n", width, left->lines[i++]);
+        else
+            printf("         %-*s > %s\n", width, "", right->lines[j++]);
+    }
+}
+
+/* The text of a table that was accepted, laid out. */
+static void write_out(const uint8_t *bytes, size_t len, struct layout *layout)
+{
+    static char text[MOST_TEXT + 1];
+    size_t written = 0;
+    accepted(deskheron_write_text(bytes, len, (uint8_t *)text, MOST_TEXT, &written));
+    text[written] = '\0';
+    lay_out(layout, text);
+}
+
 static void trim(const struct table *t)
 {
+    static struct layout before, after;
     uint8_t out[MOST_BYTES];
     uint32_t nodes;
     size_t bytes;
@@ -133,6 +229,9 @@ static void trim(const struct table *t)
     for (size_t i = 0; i < bytes; i++)
         printf("%s%02x", i % 24 == 0 ? "\n         " : " ", out[i]);
     putchar('\n');
+    write_out(t->bytes, t->len, &before);
+    write_out(out, bytes, &after);
+    print_beside(&before, &after);
 }
 
 /* Label sets of states to look at, each once; the first is the start unless resumed says otherwise. */
@@ -225,7 +324,7 @@ static void step(const struct table *t, uint32_t provided, struct states states)
 static void show(const struct table *t, struct signals signals, struct states states)
 {
     uint32_t nodes;
-    printf("%s, %zu bytes\n  check  ", t->name, t->len);
+    printf("  check  ");
     if (accepted(deskheron_check(t->bytes, t->len, &nodes))) {
         print_count(nodes, "node");
         putchar('\n');
@@ -233,6 +332,16 @@ static void show(const struct table *t, struct signals signals, struct states st
         trim(t);
         list(t, signals.assumed, states);
         step(t, signals.provided, states);
+    }
+}
+
+/* Reads a text into the table, and shows it where that was not refused. */
+static void show_text(const char *text, size_t len, struct table *t, struct signals signals, struct states states)
+{
+    printf("%s, a text of %zu bytes\n  read   ", t->name, len);
+    if (accepted(deskheron_read_text((const uint8_t *)text, len, t->bytes, MOST_BYTES, &t->len))) {
+        printf("%zu bytes\n", t->len);
+        show(t, signals, states);
     }
 }
 
@@ -254,16 +363,54 @@ static bool read_set(const char *text, unsigned long limit, uint64_t *set)
     }
 }
 
-static bool read_file(const char *name, struct table *t)
+/* All bytes of a file, or NULL. */
+static char *contents(const char *name, size_t *len)
 {
     FILE *file = fopen(name, "rb");
-    if (file == NULL)
+    size_t room = 1 << 16;
+    char *bytes = file == NULL ? NULL : malloc(room);
+    *len = 0;
+    while (bytes != NULL && (*len += fread(bytes + *len, 1, room - *len, file)) == room)
+        bytes = realloc(bytes, room *= 2);
+    if (file != NULL && (ferror(file) || bytes == NULL)) {
+        free(bytes);
+        bytes = NULL;
+    }
+    if (file != NULL)
+        fclose(file);
+    return bytes;
+}
+
+static bool is_text(const char *name)
+{
+    size_t length = strlen(name);
+    return length >= 4 && strcmp(name + length - 4, ".txt") == 0;
+}
+
+/* The length of a text without a last line feed. */
+static size_t without_feed(const char *text, size_t len)
+{
+    return len > 0 && text[len - 1] == '\n' ? len - 1 : len;
+}
+
+/* Shows the text or the table in a file; false where that cannot be read. */
+static bool show_file(const char *name, struct signals signals, struct states states)
+{
+    struct table t = {.name = name};
+    size_t len;
+    char *bytes = contents(name, &len);
+    if (bytes == NULL)
         return false;
-    t->name = name;
-    t->len = fread(t->bytes, 1, sizeof t->bytes, file);
-    bool well = !ferror(file);
-    fclose(file);
-    return well;
+    if (is_text(name)) {
+        show_text(bytes, without_feed(bytes, len), &t, signals, states);
+    } else {
+        t.len = len < sizeof t.bytes ? len : sizeof t.bytes;
+        memcpy(t.bytes, bytes, t.len);
+        printf("%s, %zu bytes\n", name, t.len);
+        show(&t, signals, states);
+    }
+    free(bytes);
+    return true;
 }
 
 static int complain(const char *what, const char *which)
@@ -273,16 +420,49 @@ static int complain(const char *what, const char *which)
     return 2;
 }
 
+/* Writes the table of a text in a file to another file. */
+static int make_table(const char *from, const char *to)
+{
+    struct table t;
+    size_t len;
+    char *text = contents(from, &len);
+    if (text == NULL)
+        return complain("cannot read ", from);
+    bool well = accepted(deskheron_read_text((uint8_t *)text, without_feed(text, len), t.bytes, MOST_BYTES, &t.len));
+    free(text);
+    if (!well)
+        return 1;
+    FILE *file = fopen(to, "wb");
+    bool written = file != NULL && fwrite(t.bytes, 1, t.len, file) == t.len;
+    if (file == NULL || fclose(file) != 0 || !written)
+        return complain("cannot write ", to);
+    return 0;
+}
+
+static void show_shipped(bool assuming, bool providing, struct signals given, struct states states)
+{
+    for (size_t n = 0; n < sizeof shipped / sizeof *shipped; n++) {
+        struct table t = {.name = shipped[n].name};
+        struct signals own = shipped[n].signals;
+        own.assumed = assuming ? given.assumed : own.assumed;
+        own.provided = providing ? given.provided : own.provided;
+        show_text(shipped[n].text, strlen(shipped[n].text), &t, own, states);
+    }
+}
+
 int main(int argc, char **argv)
 {
     bool assuming = false, providing = false;
     uint64_t assumed = 0, provided = 0;
     struct states states = {.count = 1};
     int i = 1;
+    if (argc == 4 && strcmp(argv[1], "-t") == 0)
+        return make_table(argv[2], argv[3]);
     for (; i < argc && argv[i][0] == '-'; i += 2) {
         bool e = strcmp(argv[i], "-e") == 0, p = strcmp(argv[i], "-i") == 0, l = strcmp(argv[i], "-l") == 0;
         if (!e && !p && !l)
-            return complain("usage: bench [-e SIGNAL,..] [-i SIGNAL,..] [-l LABEL,..] [FILE..], not ", argv[i]);
+            return complain("usage: bench [-e SIGNAL,..] [-i SIGNAL,..] [-l LABEL,..] [FILE..] "
+                            "or bench -t TEXT TABLE, not ", argv[i]);
         if (i + 1 == argc)
             return complain("numbers are missing after ", argv[i]);
         if (!l && !read_set(argv[i + 1], 32, e ? &assumed : &provided))
@@ -295,17 +475,9 @@ int main(int argc, char **argv)
     }
     struct signals given = {(uint32_t)assumed, (uint32_t)provided};
     if (i == argc)
-        for (size_t n = 0; n < sizeof shipped / sizeof *shipped; n++) {
-            struct signals own = shipped[n].signals;
-            own.assumed = assuming ? given.assumed : own.assumed;
-            own.provided = providing ? given.provided : own.provided;
-            show(&shipped[n].table, own, states);
-        }
-    for (; i < argc; i++) {
-        struct table t;
-        if (!read_file(argv[i], &t))
+        show_shipped(assuming, providing, given, states);
+    for (; i < argc; i++)
+        if (!show_file(argv[i], given, states))
             return complain("cannot read ", argv[i]);
-        show(&t, given, states);
-    }
     return refused ? 1 : 0;
 }

@@ -1,4 +1,4 @@
-/* How much stack each entry uses on tables made to use much.
+/* How much stack each entry uses on tables made to use much, and on their texts.
  *
  *   stack KIB    status 1 where an entry uses more than so many KiB
  *
@@ -16,7 +16,8 @@
 
 #include "deskheron.h"
 
-enum { MOST_NODES = 1024, MOST_BYTES = 1282, MOST_REACTIONS = 64, MOST_FREE = 10, DEEPEST = 60, PAINT = 0xa5 };
+enum { MOST_NODES = 1024, MOST_BYTES = 1282, MOST_TEXT = 20 * MOST_NODES };
+enum { MOST_REACTIONS = 64, MOST_FREE = 10, DEEPEST = 60, PAINT = 0xa5 };
 enum { NOTHING, PAUSE, GOTOPAUSE, EMIT, EXIT, SIGNAL, PRESENT, SEQUENCE, PARALLEL, LOOP, TRY };
 
 /* The nodes of a table, parent first. */
@@ -155,6 +156,27 @@ static void call_step(void)
         abort();
 }
 
+/* The text of the table, which the first writes and the second reads. */
+static uint8_t text[MOST_TEXT];
+static size_t text_len;
+
+static void call_write_text(void)
+{
+    if (deskheron_write_text(table, table_len, text, sizeof text, &text_len))
+        abort();
+    /* into a buffer that just holds it, so that it goes through a work area */
+    if (deskheron_write_text(table, table_len, text, text_len, &text_len))
+        abort();
+}
+
+static void call_read_text(void)
+{
+    static uint8_t out[MOST_BYTES];
+    size_t bytes;
+    if (deskheron_read_text(text, text_len, out, sizeof out, &bytes))
+        abort();
+}
+
 /* The bytes that a call used of a painted stack. */
 static size_t used(void (*call)(void))
 {
@@ -178,6 +200,7 @@ static const struct {
     void (*call)(void);
 } entries[] = {
     {"check", call_check}, {"reach", call_reach}, {"trim", call_trim}, {"list", call_list}, {"step", call_step},
+    {"write_text", call_write_text}, {"read_text", call_read_text},
 };
 
 enum { ENTRIES = sizeof entries / sizeof *entries };

@@ -12,12 +12,14 @@ pub mod report;
 pub mod statement;
 pub mod step;
 pub mod table;
+pub mod text;
 pub mod trim;
 
 // beside it: what the tests and the benchmark need
 pub mod library;
 pub mod met;
 pub mod plain;
+pub mod plain_text;
 pub mod random;
-pub mod text;
+pub mod texts;
 pub mod trees;

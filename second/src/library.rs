@@ -46,6 +46,20 @@ extern "C" {
         code: *mut u32,
         reached: *mut u64,
     ) -> u32;
+    fn deskheron_read_text(
+        text: *const u8,
+        text_len: usize,
+        out: *mut u8,
+        out_len: usize,
+        bytes: *mut usize,
+    ) -> u32;
+    fn deskheron_write_text(
+        table: *const u8,
+        table_len: usize,
+        out: *mut u8,
+        out_len: usize,
+        bytes: *mut usize,
+    ) -> u32;
 }
 
 /// A length of 0 may come with any pointer, so it comes with the worst.
@@ -100,4 +114,14 @@ pub fn step(table: &[u8], asked: Asked, numbers: [&mut u32; 4], reached: &mut u6
     let [answer, e, o, k] = numbers;
     let (bytes, len) = (pointer(table), table.len());
     unsafe { deskheron_step(bytes, len, signals, mark, labels, answer, e, o, k, reached) }
+}
+
+pub fn read_text(text: &[u8], out: &mut [u8], bytes: &mut usize) -> u32 {
+    let (out, out_len) = (pointer_mut(out), out.len());
+    unsafe { deskheron_read_text(pointer(text), text.len(), out, out_len, bytes) }
+}
+
+pub fn write_text(table: &[u8], out: &mut [u8], bytes: &mut usize) -> u32 {
+    let (out, out_len) = (pointer_mut(out), out.len());
+    unsafe { deskheron_write_text(pointer(table), table.len(), out, out_len, bytes) }
 }

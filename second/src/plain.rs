@@ -26,11 +26,11 @@ const SEQUENCE: u16 = 7 << 6;
 const PARALLEL: u16 = 8 << 6;
 const TRY: u16 = 10 << 6;
 
-fn kind(node: u16) -> u16 {
+pub(crate) fn kind(node: u16) -> u16 {
     node >> 6
 }
 
-fn operand(node: u16) -> u16 {
+pub(crate) fn operand(node: u16) -> u16 {
     node & 63
 }
 
@@ -91,19 +91,30 @@ fn judge(node: u16, depth: usize, tries: u16, used: &mut u64) -> Result<u8, u32>
 /// Goes over the nodes once and refuses as check does. `note` gets each place with its node,
 /// `second` the place of a parent and of its second child.
 #[inline(always)]
-fn walk(
+pub(crate) fn walk(
     table: &[u8],
-    mut note: impl FnMut(usize, u16),
-    mut second: impl FnMut(usize, usize),
+    note: impl FnMut(usize, u16),
+    second: impl FnMut(usize, usize),
 ) -> Result<usize, u32> {
     let n = header(table)?;
     let body = &table[2..];
+    walk_nodes(n, |i| node_at(body, i), note, second)
+}
+
+/// Goes over n nodes, wherever they are.
+#[inline(always)]
+pub(crate) fn walk_nodes(
+    n: usize,
+    node_at: impl Fn(usize) -> u16,
+    mut note: impl FnMut(usize, u16),
+    mut second: impl FnMut(usize, usize),
+) -> Result<usize, u32> {
     // for each depth: children still to come, and the place of their parent
     let mut left = [0_u8; 62];
     let mut parent = [0_u16; 62];
     let (mut depth, mut tries, mut is_try, mut used) = (0_usize, 0, 0_u64, 0_u64);
     for i in 0..n {
-        let node = node_at(body, i);
+        let node = node_at(i);
         let children = judge(node, depth, tries, &mut used)?;
         note(i, node);
         if children > 0 {
@@ -137,13 +148,13 @@ pub fn check(table: &[u8]) -> Result<u32, u32> {
 }
 
 /// The decoded nodes; `second` is the place of a second child.
-struct Nodes {
+pub(crate) struct Nodes {
     n: usize,
-    node: Vec<u16>,
+    pub(crate) node: Vec<u16>,
     second: Vec<u16>,
 }
 
-fn decode(table: &[u8]) -> Result<Nodes, u32> {
+pub(crate) fn decode(table: &[u8]) -> Result<Nodes, u32> {
     let n = header(table)?;
     let (mut node, mut second) = (vec![0; n], vec![0; n]);
     walk(table, |i, x| node[i] = x, |i, q| second[i] = q as u16)?;
@@ -445,14 +456,9 @@ fn trimmed(nodes: &Nodes) -> (Front, usize) {
     (front, parts[0].depth)
 }
 
-/// The operation trim: node count and byte length.
-pub fn trim(table: &[u8], out: &mut [u8]) -> Result<(u32, usize), u32> {
-    let (front, depth) = trimmed(&decode(table)?);
-    let nodes = &front.out[front.top..];
+/// The table of the nodes: its length, or 13.
+pub(crate) fn put_table(nodes: &[u16], out: &mut [u8]) -> Result<usize, u32> {
     let n = nodes.len();
-    if n > 1024 || depth > 60 {
-        return Err(12);
-    }
     let length = 2 + (10 * n).div_ceil(8);
     if out.len() < length {
         return Err(13);
@@ -466,7 +472,18 @@ pub fn trim(table: &[u8], out: &mut [u8]) -> Result<(u32, usize), u32> {
         out[at..at + bytes].copy_from_slice(&packed.to_be_bytes()[3..3 + bytes]);
         at += bytes;
     }
-    Ok((n as u32, length))
+    Ok(length)
+}
+
+/// The operation trim: node count and byte length.
+pub fn trim(table: &[u8], out: &mut [u8]) -> Result<(u32, usize), u32> {
+    let (front, depth) = trimmed(&decode(table)?);
+    let nodes = &front.out[front.top..];
+    let n = nodes.len();
+    if n > 1024 || depth > 60 {
+        return Err(12);
+    }
+    Ok((n as u32, put_table(nodes, out)?))
 }
 
 /// A reaction as one number, so that numbers rise by O, then k, then L.

@@ -1,12 +1,13 @@
 //! Times each operation of the proved library against the plain implementation, on the same
-//! generated tables in one process. What both answer is compared first: for reach and step every
-//! value that they give, for the others a refusal or the count.
+//! generated tables and texts in one process. What both answer is compared first: for reach and step
+//! every value that they give, for the others a refusal or the count.
 //!
 //! Each figure is the best of several batches that take turns. Result buffers are not cleared
 //! before a call. A call includes everything that the operation does, the making ready of its
 //! work area too.
 
 mod stepping;
+mod texts;
 
 use second::library;
 use second::plain::{self, Asked};
@@ -245,27 +246,43 @@ fn crowded_listings() {
     }
 }
 
+/// The rows of the operations on tables.
+fn on_tables(random: &mut Random, tables: usize) {
+    println!(
+        "{:<6} {:<42} {:>6} {:>10} {:>8} {:>10} {:>8} {:>7}",
+        "", "", "nodes", "library ns", "per node", "plain ns", "per node", "ratio"
+    );
+    let rows = random_rows(random, tables);
+    for operation in [check, reach, trim] {
+        rows.iter().for_each(operation);
+    }
+    plain_listings(random_rows(random, tables));
+    signal_listings();
+    crowded_listings();
+    stepping::steps(random, tables);
+}
+
 fn main() {
-    let tables = std::env::args().nth(1).map_or(Some(16), |word| word.parse().ok());
-    let Some(tables) = tables.filter(|tables| *tables > 0) else {
-        eprintln!("usage: benchmark [TABLES IN A ROW OF RANDOM TABLES]");
+    let arguments: Vec<String> = std::env::args().skip(1).collect();
+    let words: Vec<&str> = arguments.iter().map(String::as_str).collect();
+    let (number, only_texts) = match words[..] {
+        [] => (Some(16), false),
+        ["texts"] => (Some(16), true),
+        [number] => (number.parse().ok(), false),
+        [number, "texts"] => (number.parse().ok(), true),
+        _ => (None, false),
+    };
+    let Some(tables) = number.filter(|tables| *tables > 0) else {
+        eprintln!("usage: benchmark [TABLES IN A ROW OF RANDOM TABLES] [texts]");
         std::process::exit(2);
     };
     println!(
         "{tables} tables in a row of random tables, best of {BATCHES} batches; \
          result buffers are not cleared before a call"
     );
-    println!(
-        "{:<6} {:<42} {:>6} {:>10} {:>8} {:>10} {:>8} {:>7}",
-        "", "", "nodes", "library ns", "per node", "plain ns", "per node", "ratio"
-    );
     let mut random = Random(30);
-    let rows = random_rows(&mut random, tables);
-    for operation in [check, reach, trim] {
-        rows.iter().for_each(operation);
+    if !only_texts {
+        on_tables(&mut random, tables);
     }
-    plain_listings(random_rows(&mut random, tables));
-    signal_listings();
-    crowded_listings();
-    stepping::steps(&mut random, tables);
+    texts::texts(&mut random, tables);
 }

@@ -4,6 +4,7 @@ use crate::listing::{signals, work};
 use crate::made::{grown_tables, tables};
 use crate::reaching::made;
 use crate::stepping::{examples, ten_signals};
+use crate::texts;
 use crate::trial::{hex, Outcome};
 use crate::Amount;
 use second::codes::{d, rounds, s, Codes, Labels, Qualified::*};
@@ -13,7 +14,7 @@ use second::react::{react, Reaction, State, State::*};
 use second::report::report;
 use second::step::{emitted_free, made_of, step, steps_under, subsets, Step};
 use second::table::{check, length, read, write, MOST_DEPTH, MOST_NODES};
-use second::text::{parse, print};
+use second::text::{self, parse, print};
 use second::trim::trim_program;
 use std::collections::BTreeSet;
 use std::fmt::Debug;
@@ -235,6 +236,40 @@ pub fn steps(amount: Amount) -> Outcome {
                 let every = under(made_of(0, 31));
                 same(&format!("steps of {} from {i:x}", print(&p)), looked_at, every)?;
             }
+        }
+    }
+    Ok(())
+}
+
+/// The worked examples of order 2: what reading gives, and what writing gives for what was read. No
+/// pair of brackets can be taken out of a written text without changing its statement.
+pub fn texts(_: Amount) -> Outcome {
+    for (text, wanted) in texts::examples() {
+        let given = text::read(text.as_bytes(), usize::MAX);
+        same(&format!("reading {text}"), given.clone(), wanted.map(|p| write(&p)))?;
+        if let Ok(table) = given {
+            let written = text::write(&table, usize::MAX);
+            let again = written.and_then(|written| text::read(&written, usize::MAX));
+            same(&format!("writing and reading {text}"), again, Ok(table))?;
+        }
+    }
+    for (text, wanted) in texts::rewritten_examples() {
+        let table = text::read(text.as_bytes(), usize::MAX);
+        let written = table.and_then(|table| text::write(&table, usize::MAX));
+        same(&format!("writing what was read of {text}"), written, Ok(wanted.into()))?;
+    }
+    for (text, long, short) in texts::refused_together() {
+        for (buffer, wanted) in [(usize::MAX, long), (0, short)] {
+            let given = text::read(text.as_bytes(), buffer).err().unwrap_or(0);
+            same(&format!("reading {text} into {buffer} bytes"), given, wanted)?;
+        }
+    }
+    for (p, wanted) in texts::written_examples() {
+        same("writing", print(&p), wanted.into())?;
+        same("reading", parse(wanted), p.clone())?;
+        if wanted.contains('[') {
+            let bare = wanted.replace("[ ", "").replace(" ]", "");
+            same(&format!("{wanted} without brackets"), parse(&bare) == p, false)?;
         }
     }
     Ok(())

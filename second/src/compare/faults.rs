@@ -1,7 +1,8 @@
 //! Faults planted in the second implementation: the comparison has to report each of them.
 
+use crate::misreading::{Misreading, Miswriting, MISREADINGS, MISWRITINGS};
 use crate::mistakes::{Mistake, MISTAKES};
-use crate::tool::{answer, Asked, Operation, ReachCells, Second, StepCells, Tool};
+use crate::tool::{answer, put, Asked, Operation, ReachCells, Second, StepCells, Tool};
 use crate::trial::{refusals, Outcome, Trial};
 use std::cell::Cell;
 
@@ -25,6 +26,10 @@ pub enum Fault {
     Beyond(Place),
     /// step goes a wrong way
     Wrong(Mistake),
+    /// a text is read in a wrong way
+    Misread(Misreading),
+    /// a text is written in a wrong way
+    Miswritten(Miswriting),
 }
 
 /// The cells and the buffers that are lent to an operation.
@@ -35,11 +40,12 @@ fn lent_to(operation: Operation) -> (&'static [&'static str], &'static [&'static
         Operation::Trim => (&["nodes", "bytes"], &["out"]),
         Operation::List => (&["count"], &["o", "k", "l"]),
         Operation::Step => (&["answer", "assumed", "emitted", "code", "reached"], &[]),
+        Operation::ReadText | Operation::WriteText => (&["bytes"], &["out"]),
     }
 }
 
 /// The faults of an operation: each number changed, and each thing lent touched before each refusal,
-/// in an accepted result, and past it; for step also the mistakes.
+/// in an accepted result, and past it; for step, reading and writing also the mistakes.
 fn faults(operation: Operation) -> Vec<Fault> {
     let refusals = || refusals(operation).map(|refusal| refusal as u32);
     let (cells, buffers) = lent_to(operation);
@@ -52,8 +58,11 @@ fn faults(operation: Operation) -> Vec<Fault> {
         }
         faults.extend(buffers.iter().map(|lent| Fault::Beyond(Place { lent, last })));
     }
-    if operation == Operation::Step {
-        faults.extend(MISTAKES.iter().copied().map(Fault::Wrong));
+    match operation {
+        Operation::Step => faults.extend(MISTAKES.iter().copied().map(Fault::Wrong)),
+        Operation::ReadText => faults.extend(MISREADINGS.iter().copied().map(Fault::Misread)),
+        Operation::WriteText => faults.extend(MISWRITINGS.iter().copied().map(Fault::Miswritten)),
+        _ => {}
     }
     faults
 }
@@ -135,6 +144,26 @@ impl Planted {
         }
         answer
     }
+
+    /// Spoils what was put into a buffer: in place of the right answer a wrong one, where there is
+    /// one that differs, or else as above.
+    fn spoil_put(
+        &self,
+        right: u32,
+        wrong: Option<Result<Vec<u8>, u32>>,
+        out: &mut [u8],
+        bytes: &mut usize,
+    ) -> u32 {
+        let written = if right == 0 { *bytes } else { 0 };
+        if let Some(wrong) = wrong {
+            let given = if right == 0 { Ok(out[..written].to_vec()) } else { Err(right) };
+            if wrong != given && self.turn() {
+                return answer(wrong, |wrong| put(&wrong, out, bytes));
+            }
+        }
+        let lent = &mut [("out", Lent::Buffer(out, written)), ("bytes", Lent::Size(bytes))];
+        self.spoil(right, lent)
+    }
 }
 
 impl Tool for Planted {
@@ -198,6 +227,24 @@ impl Tool for Planted {
             ("reached", Lent::Set(reached)),
         ];
         self.spoil(right, lent)
+    }
+
+    fn read_text(&self, text: &[u8], out: &mut [u8], bytes: &mut usize) -> u32 {
+        let wrong = match self.fault {
+            Fault::Misread(mistake) => Some(mistake.read(text, out.len())),
+            _ => None,
+        };
+        let right = Second.read_text(text, out, bytes);
+        self.spoil_put(right, wrong, out, bytes)
+    }
+
+    fn write_text(&self, table: &[u8], out: &mut [u8], bytes: &mut usize) -> u32 {
+        let wrong = match self.fault {
+            Fault::Miswritten(mistake) => Some(mistake.write(table, out.len())),
+            _ => None,
+        };
+        let right = Second.write_text(table, out, bytes);
+        self.spoil_put(right, wrong, out, bytes)
     }
 }
 

@@ -9,15 +9,18 @@ use second::statement::Statement::{self, *};
 use second::step::{answer, emitted_free, made_of, Answer, Step, MOST_FREE};
 use second::table::{read, Refusal};
 
+/// A sort of mistakes, and the list of all of them.
 macro_rules! mistakes {
-    ($($(#[$meaning:meta])* $mistake:ident)*) => {
+    ($sort:ident $all:ident $($(#[$meaning:meta])* $mistake:ident)*) => {
         #[derive(Clone, Copy, Debug, PartialEq, Eq)]
-        pub enum Mistake { $($(#[$meaning])* $mistake,)* }
-        pub const MISTAKES: &[Mistake] = &[$(Mistake::$mistake),*];
+        pub enum $sort { $($(#[$meaning])* $mistake,)* }
+        pub const $all: &[$sort] = &[$($sort::$mistake),*];
     };
 }
 
-mistakes! {
+pub(crate) use mistakes;
+
+mistakes! { Mistake MISTAKES
     /// E is the provided set alone
     ProvidedAlone
     /// a reaction need not emit what E has beyond the provided set

@@ -1,10 +1,10 @@
-//! What is compared: something that answers the five calls of the C interface. The proved library,
+//! What is compared: something that answers the seven calls of the C interface. The proved library,
 //! the second implementation, and the plain one of the benchmark.
 
 pub use second::plain::Asked;
 use second::react::Reaction;
 use second::step::Answer;
-use second::{codes, library, list, plain, step, table, trim};
+use second::{codes, library, list, plain, plain_text, step, table, text, trim};
 
 #[derive(Clone, Copy, Debug, PartialEq, Eq)]
 pub enum Operation {
@@ -13,11 +13,13 @@ pub enum Operation {
     Trim,
     List,
     Step,
+    ReadText,
+    WriteText,
 }
 
 use Operation::*;
 
-pub const OPERATIONS: [Operation; 5] = [Check, Reach, Trim, List, Step];
+pub const OPERATIONS: [Operation; 7] = [Check, Reach, Trim, List, Step, ReadText, WriteText];
 
 /// Where reach leaves its results.
 #[derive(Clone, Copy, Debug, PartialEq, Eq)]
@@ -71,6 +73,8 @@ pub trait Tool {
     fn trim(&self, table: &[u8], out: &mut [u8], nodes: &mut u32, bytes: &mut usize) -> u32;
     fn list(&self, table: &[u8], asked: Asked, lent: [&mut [u8]; 3], count: &mut u32) -> u32;
     fn step(&self, table: &[u8], asked: Asked, cells: &mut StepCells) -> u32;
+    fn read_text(&self, text: &[u8], out: &mut [u8], bytes: &mut usize) -> u32;
+    fn write_text(&self, table: &[u8], out: &mut [u8], bytes: &mut usize) -> u32;
 }
 
 /// The second implementation.
@@ -85,6 +89,12 @@ pub fn answer<T>(result: Result<T, u32>, store: impl FnOnce(T)) -> u32 {
         }
         Err(refusal) => refusal,
     }
+}
+
+/// Leaves a result in front of a buffer, and its length.
+pub fn put(result: &[u8], out: &mut [u8], bytes: &mut usize) {
+    out[..result.len()].copy_from_slice(result);
+    *bytes = result.len();
 }
 
 impl Tool for Second {
@@ -105,9 +115,8 @@ impl Tool for Second {
 
     fn trim(&self, table: &[u8], out: &mut [u8], nodes: &mut u32, bytes: &mut usize) -> u32 {
         answer(trim::trim_table(table, out.len()), |(n, trimmed)| {
-            out[..trimmed.len()].copy_from_slice(&trimmed);
+            put(&trimmed, out, bytes);
             *nodes = n as u32;
-            *bytes = trimmed.len();
         })
     }
 
@@ -128,6 +137,14 @@ impl Tool for Second {
     fn step(&self, table: &[u8], asked: Asked, cells: &mut StepCells) -> u32 {
         let state = list::state(asked.mark, asked.labels);
         answer(step::step(table, asked.signals, state), |found| cells.store(found))
+    }
+
+    fn read_text(&self, text: &[u8], out: &mut [u8], bytes: &mut usize) -> u32 {
+        answer(text::read(text, out.len()), |table| put(&table, out, bytes))
+    }
+
+    fn write_text(&self, table: &[u8], out: &mut [u8], bytes: &mut usize) -> u32 {
+        answer(text::write(table, out.len()), |text| put(&text, out, bytes))
     }
 }
 
@@ -156,6 +173,14 @@ impl Tool for Plain {
     fn step(&self, table: &[u8], asked: Asked, cells: &mut StepCells) -> u32 {
         answer(plain::step(table, asked), |found| cells.store(found))
     }
+
+    fn read_text(&self, text: &[u8], out: &mut [u8], bytes: &mut usize) -> u32 {
+        answer(plain_text::read(text, out), |length| *bytes = length)
+    }
+
+    fn write_text(&self, table: &[u8], out: &mut [u8], bytes: &mut usize) -> u32 {
+        answer(plain_text::write(table, out), |length| *bytes = length)
+    }
 }
 
 /// The proved library.
@@ -182,5 +207,13 @@ impl Tool for Library {
     fn step(&self, table: &[u8], asked: Asked, cells: &mut StepCells) -> u32 {
         let StepCells { answer, assumed, emitted, code, reached } = cells;
         library::step(table, asked, [answer, assumed, emitted, code], reached)
+    }
+
+    fn read_text(&self, text: &[u8], out: &mut [u8], bytes: &mut usize) -> u32 {
+        library::read_text(text, out, bytes)
+    }
+
+    fn write_text(&self, table: &[u8], out: &mut [u8], bytes: &mut usize) -> u32 {
+        library::write_text(table, out, bytes)
     }
 }

@@ -1,6 +1,6 @@
 //! One tool against the second implementation: each call is made on both sides with everything
 //! lent painted alike, and all of it is compared afterwards, a margin on both sides of a buffer and
-//! the table included. What was met is counted.
+//! the table or text included. What was met is counted.
 
 use crate::listing::signals;
 use crate::tool::{Asked, Operation, ReachCells, Second, StepCells, Tool, OPERATIONS};
@@ -9,7 +9,7 @@ use second::met::{count, counting, Event, CASES, RULES};
 use second::react::Reaction;
 use second::step::{emitted_free, Answer, MOST_FREE};
 use second::table::{bits, read};
-use second::text::print;
+use second::text::{parts, print, tree, MOST_OPEN};
 pub use second::trees::Outcome;
 use std::fmt::Debug;
 
@@ -45,9 +45,13 @@ pub enum Seen {
     CrowdedElsewhere,
     /// a step is answered though the lists under all E's have over 64 reactions together
     ManyTogether,
+    /// a text that is read and not as it would be written
+    OtherForm,
+    /// a text that is read and has brackets or `end`s 60 deep
+    DeepText,
 }
 
-pub const SEEN: [Seen; 11] = [
+pub const SEEN: [Seen; 13] = [
     Seen::TrimmedChanged,
     Seen::TrimmedGrew,
     Seen::ManyRounds,
@@ -59,6 +63,8 @@ pub const SEEN: [Seen; 11] = [
     Seen::ForeignProvided,
     Seen::CrowdedElsewhere,
     Seen::ManyTogether,
+    Seen::OtherForm,
+    Seen::DeepText,
 ];
 
 const COUNT: usize = OPERATIONS.len();
@@ -66,7 +72,7 @@ const COUNT: usize = OPERATIONS.len();
 #[derive(Default)]
 pub struct Counts {
     pub calls: [u64; COUNT],
-    refusals: [[u64; 18]; COUNT],
+    refusals: [[u64; 20]; COUNT],
     sizes: [[u64; SIZES.len()]; COUNT],
     kinds: [[u64; 11]; COUNT],
     seen: [u64; SEEN.len()],
@@ -81,16 +87,18 @@ type Sort = (&'static str, Vec<(String, u64)>);
 
 impl Counts {
     /// Notes the second implementation's answer to a call.
-    fn note(&mut self, operation: Operation, table: &[u8], answer: u32) {
+    fn note(&mut self, operation: Operation, answer: u32) {
+        self.calls[operation as usize] += 1;
+        self.refusals[operation as usize][answer as usize] += 1;
+    }
+
+    /// Notes a table that is accepted, or that a text is read into.
+    fn note_table(&mut self, operation: Operation, table: &[u8]) {
         let at = operation as usize;
-        self.calls[at] += 1;
-        self.refusals[at][answer as usize] += 1;
-        if answer == 0 {
-            let n = bits(table, 4, 12);
-            self.sizes[at][SIZES.iter().position(|&most| n <= most).unwrap()] += 1;
-            for i in 0..n {
-                self.kinds[at][bits(table, 16 + 10 * i, 4)] += 1;
-            }
+        let n = bits(table, 4, 12);
+        self.sizes[at][SIZES.iter().position(|&most| n <= most).unwrap()] += 1;
+        for i in 0..n {
+            self.kinds[at][bits(table, 16 + 10 * i, 4)] += 1;
         }
     }
 
@@ -183,13 +191,15 @@ impl Counts {
 
 /// The refusals that an operation can give.
 pub fn refusals(operation: Operation) -> impl Iterator<Item = usize> {
-    let own: &[usize] = match operation {
-        Operation::Check | Operation::Reach => &[],
-        Operation::Trim => &[12, 13],
-        Operation::List => &[14, 15, 16],
-        Operation::Step => &[14, 15, 17],
+    let (checks, own): (_, &[usize]) = match operation {
+        Operation::Check | Operation::Reach => (1..12, &[]),
+        Operation::Trim => (1..12, &[12, 13]),
+        Operation::List => (1..12, &[14, 15, 16]),
+        Operation::Step => (1..12, &[14, 15, 17]),
+        Operation::ReadText => (8..11, &[3, 13, 18, 19]),
+        Operation::WriteText => (1..12, &[13]),
     };
-    (1..12).chain(own.iter().copied())
+    checks.chain(own.iter().copied())
 }
 
 /// Whether these operations have to bring a sight about.
@@ -201,6 +211,7 @@ fn due(seen: Seen, operations: &[Operation]) -> bool {
         Seen::LongRun => &[Operation::Trim, Operation::List],
         Seen::LongStep => &[Operation::Trim, Operation::List, Operation::Step],
         Seen::ForeignProvided | Seen::CrowdedElsewhere | Seen::ManyTogether => &[Operation::Step],
+        Seen::OtherForm | Seen::DeepText => &[Operation::ReadText],
     };
     needed.iter().all(|operation| operations.contains(operation))
 }
@@ -356,31 +367,88 @@ impl Trial<'_> {
         Ok(Some(cells[1].stored()))
     }
 
-    /// Asks both sides, each with a table of its own, and compares what came back: 0 or the
+    /// Reads a text, or writes one, into a buffer of so many bytes; what was put into it where it is
+    /// accepted.
+    fn put(
+        &mut self,
+        operation: Operation,
+        input: &[u8],
+        buffer: usize,
+        call: fn(&dyn Tool, &[u8], &mut [u8], &mut usize) -> u32,
+    ) -> Given<Vec<u8>> {
+        let (paint, margin) = (self.next_paint(), self.margin);
+        let ask = |tool: &dyn Tool, input: &[u8]| {
+            let (mut out, mut bytes) = (painted(buffer, margin, paint), [usize::from(paint); 3]);
+            let answer = call(tool, input, out.lend(), &mut bytes[1]);
+            (answer, (bytes, out))
+        };
+        let more = || format!("buffer of {buffer} bytes");
+        let (answer, (bytes, mut out)) = self.compare(operation, input, ask, more)?;
+        Ok((answer == 0).then(|| out.lend()[..bytes[1]].to_vec()))
+    }
+
+    /// Reads a text into a buffer of so many bytes; the table where it is accepted.
+    pub fn read_text(&mut self, text: &[u8], buffer: usize) -> Given<Vec<u8>> {
+        let call = |tool: &dyn Tool, text: &[u8], out: &mut [u8], bytes: &mut usize| {
+            tool.read_text(text, out, bytes)
+        };
+        let table = self.put(Operation::ReadText, text, buffer, call)?;
+        if let Some(table) = &table {
+            self.counts.note_table(Operation::ReadText, table);
+            if read(table).is_ok_and(|p| print(&p).as_bytes() != text) {
+                self.counts.see(Seen::OtherForm);
+            }
+            if parts(text).is_some_and(|parts| tree(&parts, MOST_OPEN - 1).is_none()) {
+                self.counts.see(Seen::DeepText);
+            }
+        }
+        Ok(table)
+    }
+
+    /// Writes a table into a buffer of so many bytes; the text where it is accepted.
+    pub fn write_text(&mut self, table: &[u8], buffer: usize) -> Given<Vec<u8>> {
+        let call = |tool: &dyn Tool, table: &[u8], out: &mut [u8], bytes: &mut usize| {
+            tool.write_text(table, out, bytes)
+        };
+        self.put(Operation::WriteText, table, buffer, call)
+    }
+
+    /// Asks both sides, each with a table or text of its own, and compares what came back: 0 or the
     /// refusal, and everything lent.
     fn compare<T: Debug + PartialEq>(
         &mut self,
         operation: Operation,
-        table: &[u8],
+        input: &[u8],
         ask: impl Fn(&dyn Tool, &[u8]) -> (u32, T),
         more: impl Fn() -> String,
     ) -> Result<(u32, T), String> {
-        let lent = table.to_vec();
-        let wanted = counting(|| ask(&Second, table));
+        let lent = input.to_vec();
+        let wanted = counting(|| ask(&Second, input));
         let given = ask(self.tool, &lent);
-        self.counts.note(operation, table, wanted.0);
-        if given == wanted && lent == table {
+        self.counts.note(operation, wanted.0);
+        if wanted.0 == 0 && operation != Operation::ReadText {
+            self.counts.note_table(operation, input);
+        }
+        if given == wanted && lent == input {
             return Ok(wanted);
         }
-        let statement = read(table).map_or_else(|r| format!("refused {r}"), |p| print(&p));
-        let changed = if lent == table { "" } else { "\n  and the table was changed" };
+        let changed = if lent == input { "" } else { "\n  and what was lent was changed" };
         Err(format!(
-            "{operation:?} differs at table (hex) {}\n  {statement}\n  {}\n  wanted {wanted:02x?}\n  \
-             given  {given:02x?}{changed}",
-            hex(table),
+            "{operation:?} differs at {}\n  {}\n  wanted {wanted:02x?}\n  given  {given:02x?}{changed}",
+            described(operation, input),
             more(),
         ))
     }
+}
+
+/// A table in hex with its statement, or a text.
+fn described(operation: Operation, input: &[u8]) -> String {
+    if operation == Operation::ReadText {
+        let shown = &input[..input.len().min(2_000)];
+        return format!("text of {} bytes {:?}", input.len(), String::from_utf8_lossy(shown));
+    }
+    let statement = read(input).map_or_else(|r| format!("refused {r}"), |p| print(&p));
+    format!("table (hex) {}\n  {statement}", hex(input))
 }
 
 pub fn hex(bytes: &[u8]) -> String {
