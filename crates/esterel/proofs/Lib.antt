@@ -1,5 +1,6 @@
 pub mod Premises
 pub mod Codes
+pub mod Passing
 pub mod Soundness
 pub mod Exits
 pub mod Resuming

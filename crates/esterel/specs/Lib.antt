@@ -6,4 +6,5 @@ pub mod Reactions
 pub mod Runs
 pub mod Listing
 pub mod Stepping
+pub mod Theorems
 pub mod inner

@@ -68,11 +68,11 @@ fn follow_each(kept: &mut [u64; KEPT], set: u64, after: CodeSet)
     }
 }
 
-// The set where the flag says so, else none.
+// The set where the flag says so, else none. No branch, since it stands on the way of codes through a try.
 fn set_if(yes: bool, set: u64) -> u64
     ensures { λ r. ⌜ r ≡ cond yes set 0 ⌝ }
 {
-    if yes { set } else { 0 }
+    set * yes as u64
 }
 
 // What is kept for the labels of the set goes through a try. Gives those from which the statement then ends.

@@ -4,6 +4,7 @@ use mathlib.Core.Logic.{_≢_, _⊎_, inl, inr}
 use mathlib.Core.Bool.{Bool, true, false, _&&_, _||_, cond, true≢false}
 use Prim.Native.Nat.{ℕ}
 use lib.Dec.{eqb, eqb→eq, eqb-refl, T}
+use mir.Val.{boolByte}
 
 pub or-left : {a : Bool} (b : Bool) → a ≡ true → (a || b) ≡ true
 or-left {a} b h = rw h
@@ -80,3 +81,8 @@ eqb-same n = T-true (eqb n n) (eqb-refl n)
 
 pub differ-eqb : (m n : ℕ) → eqb m n ≡ false → m ≢ n
 differ-eqb m n e p = clash (subst (λ (x : ℕ). eqb m x ≡ true) p (eqb-same m)) e
+
+-- the number that a cast makes of a Boolean
+pub flag-byte : (b : Bool) → boolByte b ≡ cond b 1 0
+flag-byte true = refl
+flag-byte false = refl

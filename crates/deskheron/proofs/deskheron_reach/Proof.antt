@@ -1,16 +1,12 @@
 -- `deskheron::deskheron_reach` meets its contract, by cases of reach's answer.
 use mathlib.Core.Path.{_≡_, refl, sym, ap, _∙_}
 use mathlib.Core.Bool.{Bool, true, false, cond}
-use mir.Val.{boolByte}
+use Rattle.sets.proofs.Booleans.{flag-byte}
 use Rattle.table.specs.Outcomes.{numberOf, cellAfter}
 use Rattle.reach.specs.Answers.{reachedOutcome, reachOf}
 use borrow.Author.Needs.{needs}
 use Rattle.deskheron.proofs.deskheron_reach.Statement.{statement}
 use Rattle.deskheron.proofs.deskheron_reach.Tie as tie
-
-flag-byte : (b : Bool) → boolByte b ≡ cond b 1 0
-flag-byte true = refl
-flag-byte false = refl
 
 reach-requires : tie.Need-reach-requires
 reach-requires c κs = search needs
