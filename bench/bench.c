@@ -53,6 +53,14 @@ static const struct {
      "emit S4"},
     {{0, 0}, "exits",
      "try 1:pause ; exit 1 || 2:pause ; 3:pause end"},
+    {{1 << 1 | 1 << 3 | 1 << 4, 1 << 1}, "levels",
+     "try\n"
+     "  try\n"
+     "    try\n"
+     "      1:pause ; present S0 then exit 1 else present S1 then exit 2 else exit 3 end end\n"
+     "    end ; emit S2\n"
+     "  end ; emit S3\n"
+     "end ; emit S4"},
     {{1 << 0 | 1 << 1, 1 << 0}, "expanded",
      "try\n"
      "  exit 1 ;\n"

@@ -1,5 +1,6 @@
 //! Qualified codes (Figures 5 and 6), the rounds, and the operation reach.
 
+use crate::met::{passed, Passage};
 use crate::statement::{Label, Statement};
 use crate::table::{read, Refusal};
 use std::collections::BTreeSet;
@@ -41,6 +42,7 @@ pub fn through_try(k: Code) -> Code {
 }
 
 fn all_through_try(codes: &Codes) -> Codes {
+    codes.iter().for_each(|c| passed(Passage::InSet, c.code()));
     codes
         .iter()
         .map(|&c| match (c, through_try(c.code())) {

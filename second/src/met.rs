@@ -1,6 +1,6 @@
-//! Counts how often each rule of Figure 3 fired and each case of trimming occurred while the second
-//! implementation answered a compared call, so that the tests can tell that none was missed. What
-//! it computes to make a test is not counted. It takes no part in any answer.
+//! Counts how often each rule of Figure 3 fired, each case of trimming occurred and each code went
+//! through a try while the second implementation answered a compared call, so that the tests can tell
+//! that none was missed. What it computes to make a test is not counted. It takes no part in any answer.
 
 use std::cell::{Cell, RefCell};
 
@@ -33,14 +33,32 @@ events! {
 
 const EVENTS: usize = RULES.len() + CASES.len();
 
+/// How a code goes through a try: in a set of the analysis, or as that of a reaction.
+#[derive(Clone, Copy, Debug)]
+pub enum Passage {
+    InSet,
+    InReaction,
+}
+
+/// The codes that a table can have are 0 to 60, since no exit stands inside more than 59 tries.
+pub const CODES: usize = 61;
+
 thread_local! {
     static COUNTS: RefCell<[u64; EVENTS]> = const { RefCell::new([0; EVENTS]) };
+    static PASSED: RefCell<[[u64; CODES]; 2]> = const { RefCell::new([[0; CODES]; 2]) };
     static COUNTING: Cell<bool> = const { Cell::new(false) };
 }
 
 pub fn met(event: Event) {
     if COUNTING.get() {
         COUNTS.with_borrow_mut(|counts| counts[event as usize] += 1);
+    }
+}
+
+/// Counts a code of a table that goes through a try.
+pub fn passed(passage: Passage, code: u8) {
+    if COUNTING.get() {
+        PASSED.with_borrow_mut(|counts| counts[passage as usize][usize::from(code)] += 1);
     }
 }
 
@@ -56,6 +74,12 @@ pub fn count(event: Event) -> u64 {
     COUNTS.with_borrow(|counts| counts[event as usize])
 }
 
+/// How often each code went through a try.
+pub fn codes_passed(passage: Passage) -> [u64; CODES] {
+    PASSED.with_borrow(|counts| counts[passage as usize])
+}
+
 pub fn clear() {
     COUNTS.with_borrow_mut(|counts| counts.fill(0));
+    PASSED.with_borrow_mut(|counts| *counts = [[0; CODES]; 2]);
 }

@@ -1,7 +1,7 @@
 //! Reactions: every (O, k, L) that the rules of Figure 3 derive for a state under an E.
 
 use crate::codes::{through_try, Code};
-use crate::met::{met, Event, Event::*};
+use crate::met::{met, passed, Event, Event::*, Passage};
 use crate::statement::Statement;
 use std::collections::BTreeSet;
 use Statement::*;
@@ -48,6 +48,7 @@ pub fn react(p: &Statement, state: State, e: u32) -> Reactions {
         Loop(p) => all.repeated(p, state, e),
         Try(p) => {
             for r in react(p, state, e) {
+                passed(Passage::InReaction, r.k);
                 all.add(RuleTry, Reaction { k: through_try(r.k), ..r });
             }
         }

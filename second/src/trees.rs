@@ -108,6 +108,11 @@ pub fn inside_loops(loops: usize, p: Statement) -> Statement {
     (0..loops).fold(p, |p, _| Loop(p.into()))
 }
 
+/// So many tries around a statement.
+pub fn inside_tries(tries: usize, p: Statement) -> Statement {
+    (0..tries).fold(p, |p, _| Try(p.into()))
+}
+
 /// Follows p or q, as the local signal says, which may be either.
 pub fn choice(p: Statement, q: Statement) -> Statement {
     let signal = 31;

@@ -160,6 +160,16 @@ fn branches(n: usize) -> Statement {
     even((1..=8).map(part).collect(), present)
 }
 
+/// Exits of each level from 1 on, behind a pause each, inside so many tries: resumed from all labels, each
+/// code goes through as many tries as it leaves, and then on as 0.
+fn exits_of_each_level(tries: usize) -> Statement {
+    let part = |level| sequence(Pause(level), Exit(level));
+    inside_tries(tries, even((1..=tries as u8).map(part).collect(), present))
+}
+
+/// How many tries there are around these.
+const TRIES: [usize; 4] = [6, 13, 26, 52];
+
 const START: Asked = Asked { signals: u32::MAX, mark: 0, labels: 0 };
 const RESUMED: Asked = Asked { signals: u32::MAX, mark: 1, labels: u64::MAX };
 
@@ -246,6 +256,18 @@ fn crowded_listings() {
     }
 }
 
+/// Codes through tries: one, and as many as there are tries.
+fn caught_listings() {
+    for tries in TRIES {
+        let p = inside_tries(tries, Exit(tries as u8));
+        list(one(format!("start, 1 exit, {tries} tries"), p), START);
+    }
+    for tries in TRIES {
+        let p = exits_of_each_level(tries);
+        list(one(format!("resumed, {tries} exits, {tries} tries"), p), RESUMED);
+    }
+}
+
 /// The rows of the operations on tables.
 fn on_tables(random: &mut Random, tables: usize) {
     println!(
@@ -256,9 +278,16 @@ fn on_tables(random: &mut Random, tables: usize) {
     for operation in [check, reach, trim] {
         rows.iter().for_each(operation);
     }
+    for operation in [reach, trim] {
+        for tries in TRIES {
+            let p = exits_of_each_level(tries);
+            operation(&one(format!("{tries} exits, {tries} tries"), p));
+        }
+    }
     plain_listings(random_rows(random, tables));
     signal_listings();
     crowded_listings();
+    caught_listings();
     stepping::steps(random, tables);
 }
 

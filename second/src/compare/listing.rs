@@ -163,7 +163,7 @@ pub fn largest_stack(t: &mut Trial, _: Amount) -> Outcome {
     let crowd = inside_signals(4, sequence(Pause(62), choices(64)));
     for join in [present, sequence, parallel] {
         let bottom = join(Pause(60), Pause(61));
-        let chain = (0..57).fold(bottom, |p, _| Try(p.into()));
+        let chain = inside_tries(57, bottom);
         let table = write(&parallel(crowd.clone(), chain));
         t.list(&table, start(1), ROOMY)?;
         t.list(&table, resumed(1, u64::MAX), ROOMY)?;

@@ -23,6 +23,7 @@ mod stepping;
 mod texts;
 mod tool;
 mod trial;
+mod tries;
 mod trimming;
 
 use second::met;
@@ -70,6 +71,7 @@ const REACH: &[Group] = &[
     ("small trees", reaching::small_trees),
     ("edges", reaching::edges),
     ("chains, jumps, exits", reaching::made_tables),
+    ("codes through tries", tries::reach),
     ("random tables", reaching::random_tables),
 ];
 
@@ -78,6 +80,7 @@ const TRIM: &[Group] = &[
     ("small trees", trimming::small_trees),
     ("edges, around 1,024 nodes and depth 60", trimming::edges),
     ("buffer lengths", trimming::buffers),
+    ("codes through tries", tries::trim),
     ("random tables", trimming::random_tables),
 ];
 
@@ -88,6 +91,7 @@ const LIST: &[Group] = &[
     ("12 and 13 signals", listing::signals_edge),
     ("the largest stack", listing::largest_stack),
     ("buffer lengths", listing::buffers),
+    ("codes through tries", tries::list),
     ("random programs", listing::random_programs),
     ("crowded programs", listing::crowded_programs),
     ("tests inside 0 to 12 signals", listing::tested_signals),
@@ -104,6 +108,7 @@ const STEP: &[Group] = &[
     ("64 and 65 reactions under some E", stepping::crowded_sets),
     ("ways told apart by E", stepping::told_apart),
     ("the largest stack", stepping::largest_stack),
+    ("codes through tries", tries::step),
     ("random programs", stepping::random_programs),
     ("1 to 1,024 sets E", stepping::many_sets),
     ("crowded programs", stepping::crowded_programs),
@@ -173,7 +178,8 @@ impl Results {
 
     /// Compares a tool with the second implementation, and sees that each thing which the counts name
     /// was met: the refusals of each operation, the sizes and kinds of nodes in what it accepts, the
-    /// sights, the cases of trimming, the rules of Figure 3, the nestings of signals.
+    /// sights, the cases of trimming, the rules of Figure 3, the nestings of signals, the codes that go
+    /// through a try, the answers of step.
     fn compare(&mut self, t: &mut Trial, name: &str, operations: &[Operation], amount: Amount) {
         met::clear();
         for operation in operations {
@@ -230,6 +236,7 @@ fn bounded(results: &mut Results, amount: Amount) {
     results.run("report's lines", || cases::reported(amount));
     results.run("reading and writing", || cases::round_trips(amount));
     results.run("codes and reactions", || cases::analysis(amount));
+    results.run("codes through a try", || tries::by_itself(amount));
     results.run("runs of trimmed programs", || cases::trimmed_runs(amount));
     results.run("worked examples of step", || cases::stepped(amount));
     results.run("steps under every set", || cases::steps(amount));

@@ -419,7 +419,7 @@ pub fn largest_stack(t: &mut Trial, _: Amount) -> Outcome {
     let told_apart = parallel(sequence(Pause(45), tests), pairs(8, 8, 29));
     let held = parallel(pairs(8, 8, 13), left_by(47, told_apart));
     let crowd = parallel(pairs(4, 8, 1), left_by(46, held));
-    let chain = (0..57).fold(sequence(Pause(62), Pause(63)), |p, _| Try(p.into()));
+    let chain = inside_tries(57, sequence(Pause(62), Pause(63)));
     let table = write(&parallel(crowd, chain));
     for asked in [start(0), resumed(0, u64::MAX)] {
         t.step(&table, asked)?.ok_or("refused before its largest stack")?;

@@ -5,7 +5,7 @@
 use crate::listing::signals;
 use crate::tool::{Asked, Operation, ReachCells, Second, StepCells, Tool, OPERATIONS};
 use second::list::{MOST_REACTIONS, MOST_SIGNALS};
-use second::met::{count, counting, Event, CASES, RULES};
+use second::met::{codes_passed, count, counting, Event, Passage, CASES, RULES};
 use second::react::Reaction;
 use second::step::{emitted_free, Answer, MOST_FREE};
 use second::table::{bits, read};
@@ -131,11 +131,19 @@ impl Counts {
             ("sights", seen),
         ];
         let events = |all: &[Event]| all.iter().map(|e| (format!("{e:?}"), count(*e))).collect();
+        let passed = |passage| {
+            let each = codes_passed(passage).into_iter().enumerate();
+            each.map(|(k, count)| (format!("code {k} through a try, {passage:?}"), count)).collect()
+        };
+        if operations.contains(&Operation::Reach) {
+            sorts.push(("codes through a try in a set", passed(Passage::InSet)));
+        }
         if operations.contains(&Operation::Trim) {
             sorts.push(("cases of trimming", events(CASES)));
         }
         if operations.contains(&Operation::List) {
             sorts.push(("rules of Figure 3", events(RULES)));
+            sorts.push(("codes through a try in reactions", passed(Passage::InReaction)));
             let inside = self.inside.into_iter().enumerate();
             let inside = inside.map(|(n, count)| (format!("listed inside {n} signals"), count));
             sorts.push(("nestings of signals listed", inside.collect()));
