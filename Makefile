@@ -1,6 +1,6 @@
 # Deskheron.
 #   make         proves and builds everything that there is, and shows a report
-#   make test    the tests, then the whole gate, whose last line counts what passed
+#   make test    the whole gate: rt ci, then the tests; its last line counts what rt ci passed
 #   make long    over ten million calls of the library compared with the second implementation
 #   make speed   times the library against plain Rust
 #   make samples writes the tables of the texts in samples/
@@ -9,10 +9,11 @@
 SHELL := /bin/bash -o pipefail
 MAKEFLAGS += --no-print-directory
 .NOTPARALLEL:
-.PHONY: all test long speed samples tools library report second bench compared memory stack shipped
+.PHONY: all test long speed samples tools valgrind library report second bench proved compared memory stack steady shipped
 
 BEGUN := $(shell date +%s)
 CARGO := CARGO_TARGET_DIR=target/second cargo build --quiet --offline --locked --manifest-path second/Cargo.toml
+GCC := gcc -std=c11 -O2 -Wall -Wextra -Werror -Iinclude
 SECOND := target/second/release/second
 BENCH := target/bench/bench
 # KiB of stack that an entry takes at most, as docs/c-interface.md says.
@@ -22,24 +23,35 @@ all: tools report library second bench
 	@rt check
 	target/bin/report < samples/lamp.table
 
-# rt ci clears target/ first, so the tests come before it. The time goes before its last line.
-test: compared memory stack shipped
+# The tests come after rt ci, which clears target/, and so need not prove again what they use. Its last line counts what passed
+# and comes last; where something did not pass, nothing follows it.
+test: tools valgrind proved compared memory stack steady shipped
+	@echo "all of it took $$(($$(date +%s) - $(BEGUN))) s"
+	@cat target/passed
+
+proved:
 	@rt ci | awk '{ if (NR > 1) print last; last = $$0; fflush() } \
-		END { "date +%s" | getline now; print "all of it took " now - $(BEGUN) " s"; print last }'
+		END { print last > "target/passed"; if (last !~ /, 0 failed$$/) print last }'
 
 # The library against the second implementation.
 compared: tools report library second
-	@$(SECOND)
-	@echo "built and compared in $$(($$(date +%s) - $(BEGUN))) s"
+	@begun=$$(date +%s); $(SECOND) && echo "compared in $$(($$(date +%s) - begun)) s"
 
 # The library's entries under a memory checker, with twice the stack that they are said to take.
-memory: tools library second
-	@command -v valgrind > /dev/null || { echo "valgrind is missing; README.md says what is needed"; exit 1; }
+memory: tools valgrind library second
 	@ulimit -s $$((2 * $(STACK))) && valgrind --quiet --error-exitcode=1 $(SECOND) --memory
 
 # The stack that they take.
 stack: tools library bench
 	@target/bench/stack $(STACK)
+
+# Each instruction is executed as often, whichever codes go through tries. It is built here, since the tests alone need valgrind.
+steady: tools valgrind library
+	@mkdir -p target/bench && rm -f target/bench/counts*
+	@$(GCC) bench/steady.c target/staticlib/libdeskheron.a -o target/bench/steady
+	@valgrind --quiet --tool=callgrind --dump-instr=yes --compress-strings=no --compress-pos=no \
+		--callgrind-out-file=target/bench/counts target/bench/steady
+	@awk -f bench/steady.awk target/bench/counts.*
 
 # The bench program on its own texts, its status for what is refused, and the tables that it makes of the samples.
 shipped: tools library bench
@@ -65,6 +77,9 @@ tools:
 		command -v $$tool > /dev/null || { echo "$$tool is missing; README.md says what is needed"; exit 1; }; \
 	done
 
+valgrind:
+	@command -v valgrind > /dev/null || { echo "valgrind is missing; README.md says what is needed"; exit 1; }
+
 library:
 	@rt staticlib deskheron
 
@@ -77,6 +92,5 @@ second:
 bench:
 	@mkdir -p target/bench
 	@for program in bench stack; do \
-		gcc -std=c11 -O2 -Wall -Wextra -Werror -Iinclude bench/$$program.c target/staticlib/libdeskheron.a \
-			-o target/bench/$$program || exit 1; \
+		$(GCC) bench/$$program.c target/staticlib/libdeskheron.a -o target/bench/$$program || exit 1; \
 	done
