@@ -20,9 +20,11 @@ uint32_t deskheron_check(const uint8_t *table, size_t table_len, uint32_t *nodes
 uint32_t deskheron_reach(const uint8_t *table, size_t table_len,
                          uint8_t *start_ends, uint64_t *start_labels, uint64_t *reached, uint32_t *rounds);
 
-/* The trimmed table goes to the front of out; nodes is its node count, bytes its length. */
+/* The trimmed table goes to the front of out; nodes is its node count, bytes its length. thousandths and remainder: 1,000 times
+   nodes, divided by the node count of table. A trimmed table can be longer than its source: then thousandths is over 1,000. */
 uint32_t deskheron_trim(const uint8_t *table, size_t table_len,
-                        uint8_t *out, size_t out_len, uint32_t *nodes, size_t *bytes);
+                        uint8_t *out, size_t out_len, uint32_t *nodes, size_t *bytes,
+                        uint32_t *thousandths, uint32_t *remainder);
 
 /* mark: 0 for the start, whose labels are ignored; any other number for the state with these labels. assumed: the signals,
    bit s for signal s. o, k and l: the reactions in order, most significant byte first: 4 bytes for each emitted set, 1 for

@@ -4,14 +4,13 @@ use mathlib.Core.Path.{_≡_, refl, sym, ap, _∙_, subst}
 use mathlib.Core.Logic.{_↔_, inl, inr}
 use mathlib.Core.Bool.{cond, _||_}
 use mathlib.Core.List.{List, [], _∷_, _++_, map}
-use Prim.Native.Nat.{ℕ, zero, suc, _≤_, _<_}
+use Prim.Native.Nat.{ℕ, zero, suc, _<_}
 use native.Mathlib.Omega.{arith}
 use lib.Dec.{ltb}
 use lib.ListN.{length, take, drop, getD, length-map, List·getD-map}
 use lib.Seq.{take-at}
-use borrow.Author.Tests.{ltb-false}
-use Rattle.sets.proofs.Booleans.{by-cond, or-neither}
-use Rattle.esterel.specs.Statement.{Statement, Valid, size, depth}
+use Rattle.sets.proofs.Booleans.{by-cond}
+use Rattle.esterel.specs.Statement.{Statement, Valid, size}
 use Rattle.esterel.specs.Trimming.{trimmed}
 use Rattle.esterel.specs.Reactions.{State, Reaction, Reacts}
 use Rattle.esterel.specs.Runs.{Step, Run, StateOf}
@@ -22,10 +21,11 @@ use Rattle.esterel.proofs.Bounds.{Narrow, reaction-narrow}
 use Rattle.esterel.proofs.Runs.{same-runs}
 use Rattle.esterel.proofs.Indistinguishable.{same-listings}
 use Rattle.table.specs.Outcomes.{refusal, values, bufferAfter}
-use Rattle.table.specs.Reading.{Table, tableOf, holds, deepest}
+use Rattle.table.specs.Reading.{Table, tableOf, holds}
 use Rattle.table.specs.Writing.{write}
 use Rattle.table.proofs.RoundTrip.{read-written}
 use Rattle.trim.specs.Answers.{trimFor, trimIn, trimOf, bufferIn, bufferOf}
+use Rattle.trim.proofs.Answers.{allowed-trimmed}
 use Rattle.list.specs.Answers.{Listing, refused, listed, listFor, listIn, fitted, listOf, listingOutcome, written}
 use Rattle.list.specs.Buffers.{emittedIn, codeIn, reachedIn, front}
 use Rattle.deskheron.specs.Demand.{Layout, placesOf, filled, groupAt, Call, For, calledOn, Groups, standsAt, readBack, Stands, ThirdDemand}
@@ -133,15 +133,6 @@ called-holds y t E c n e = go (tableOf t) refl
     go (Table.refused w) h = not-refused w (n ∷ []) (sym (ap (λ T. listingOutcome (fittedFor y c (listIn T E (c .mark) (c .labels)))) h) ∙ e)
     go (holds s p) h = (s, p, h)
 
--- ---- what trim accepts
-accepted-fits : (q : Statement) (room : ℕ) (sizes : List ℕ) → trimFor q room ≡ values sizes → (size q ≤ 1024) × (depth q ≤ deepest)
-unfolding trimFor
-accepted-fits q room sizes =
-    by-cond (λ a. a ≡ values sizes → (size q ≤ 1024) × (depth q ≤ deepest)) (ltb 1024 (size q) || ltb deepest (depth q)) (refusal 12)
-    (cond (ltb room (length (write q))) (refusal 13) (values (size q ∷ length (write q) ∷ [])))
-    (λ k e. not-refused 12 sizes e)
-    (λ k e. let n = or-neither (ltb 1024 (size q)) (ltb deepest (depth q)) k in (ltb-false 1024 (size q) (n .0), ltb-false deepest (depth q) (n .1)))
-
 -- ---- the demand
 module _ (t : List ℕ) (s : ℕ) (p : Statement) (h : tableOf t ≡ holds s p) where
   abbrev q : Statement
@@ -190,11 +181,10 @@ module _ (t : List ℕ) (s : ℕ) (p : Statement) (h : tableOf t ≡ holds s p) 
   trims : (out sizes : List ℕ) → trimOf t (length out) ≡ values sizes → (take (length u) (bufferOf t out) ≡ u) × (tableOf u ≡ holds (size q) q)
   unfolding trimOf trimIn bufferOf bufferIn bufferAfter
   trims out sizes e =
-      let a : trimFor q (length out) ≡ values sizes = ap (λ T. trimIn T (length out)) (sym h) ∙ e in
-      let f = accepted-fits q (length out) sizes a in
+      let a : trimFor s q (length out) ≡ values sizes = ap (λ T. trimIn T (length out)) (sym h) ∙ e in
       let b : bufferOf t out ≡ u ++ drop (length u) out = ap (λ T. bufferIn T out) h ∙ ap (λ z. bufferAfter z (write q) out) a in (
         ap (take (length u)) b ∙ take-at u (drop (length u) out) (length u) refl,
-        read-written q (record { valid = valid-q t s p h; few = f .0; deep = f .1 }),
+        read-written q (allowed-trimmed p (held t s p h .valid) (held t s p h .deep) s (length out) sizes a .0),
       )
 
 pub third-demand : ThirdDemand

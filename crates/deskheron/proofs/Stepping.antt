@@ -9,13 +9,13 @@ use Prim.Native.Nat.{ℕ}
 use native.Mathlib.Omega.{arith}
 use lib.Dec.{ltb}
 use Rattle.sets.proofs.Booleans.{clash}
+use Rattle.sets.proofs.Members.{in-right}
 use Rattle.esterel.specs.Statement.{Statement}
 use Rattle.esterel.specs.Trimming.{trimmed}
 use Rattle.esterel.specs.Reactions.{State}
 use Rattle.esterel.specs.Runs.{Step, Run, StateOf}
 use Rattle.esterel.specs.Listing.{nesting}
 use Rattle.esterel.specs.Stepping.{IsAnswer, emittedFree, stepping, manyFree}
-use Rattle.esterel.proofs.Conditions.{in-right}
 use Rattle.esterel.proofs.Bounds.{valid-free}
 use Rattle.esterel.proofs.Stepping.{FreeSignals, step-within, step-looked-at, stepping-is}
 use Rattle.esterel.proofs.Limits.{shallow-trimmed, few-trimmed}

@@ -9,7 +9,8 @@ use Rattle.esterel.specs.Statement.{Statement, Valid, size}
 use Rattle.esterel.specs.Trimming.{trimmed}
 use Rattle.esterel.specs.Reactions.{State, start, resumed}
 use Rattle.esterel.proofs.Premises.{LevelsFromOne}
-use Rattle.esterel.proofs.Validity.{valid-levels, valid-trimmed, size-trimmed}
+use Rattle.esterel.proofs.Validity.{valid-levels, valid-trimmed}
+use Rattle.esterel.proofs.Growth.{size-trimmed}
 use Rattle.table.specs.Reading.{tableOf, holds}
 use Rattle.table.specs.Writing.{write}
 use Rattle.table.proofs.Accepted.{Holds, accepted}
@@ -38,7 +39,7 @@ module _ (t : List ℕ) (s : ℕ) (p : Statement) (h : tableOf t ≡ holds s p) 
   valid-q = valid-trimmed p (held .deep) (held .valid)
 
   few-q : size (trimmed p) < 4096
-  few-q = let i = size-trimmed p in let j = held .count in let k = held .header .few in omega arith
+  few-q = let i = size-trimmed p (held .valid) in let j = held .count in let k = held .header .few in omega arith
 
   pub reads : (n : ℕ) (r : Statement) → tableOf (write (trimmed p)) ≡ holds n r → r ≡ trimmed p
   reads n r e = never-another (trimmed p) (valid-ranged 0 (trimmed p) valid-q) few-q n r e .0

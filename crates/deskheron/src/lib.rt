@@ -70,18 +70,22 @@ pub extern "C" fn deskheron_reach(
     0
 }
 
-// Trim: the trimmed table at the front of the buffer, its node count and its length.
+// Trim: the trimmed table at the front of the buffer, its node count and its length, and the share that was kept.
 #[no_mangle]
 pub extern "C" fn deskheron_trim(
     table: &[u8],
     out: &mut [u8],
     nodes: &mut u32,
     bytes: &mut usize,
+    thousandths: &mut u32,
+    remainder: &mut u32,
 ) -> u32
     ensures { λ r. ⌜ r ≡ numberOf (trimOf (now (table .entry)) (length (now (out .entry)))) ⌝ }
     ensures { λ r. ⌜ now (out .exit) ≡ bufferOf (now (table .entry)) (now (out .entry)) ⌝ }
     ensures { λ r. ⌜ now (nodes .exit) ≡ cellAfter (trimOf (now (table .entry)) (length (now (out .entry)))) 0 (now (nodes .entry)) ⌝ }
     ensures { λ r. ⌜ now (bytes .exit) ≡ cellAfter (trimOf (now (table .entry)) (length (now (out .entry)))) 1 (now (bytes .entry)) ⌝ }
+    ensures { λ r. ⌜ now (thousandths .exit) ≡ cellAfter (trimOf (now (table .entry)) (length (now (out .entry)))) 2 (now (thousandths .entry)) ⌝ }
+    ensures { λ r. ⌜ now (remainder .exit) ≡ cellAfter (trimOf (now (table .entry)) (length (now (out .entry)))) 3 (now (remainder .entry)) ⌝ }
 {
     let answer = trim::trim(table, out);
     let Trimmed::Accepted(written) = answer else {
@@ -89,6 +93,8 @@ pub extern "C" fn deskheron_trim(
     };
     *nodes = written.nodes as u32;
     *bytes = written.bytes;
+    *thousandths = written.share.thousandths;
+    *remainder = written.share.remainder;
     0
 }
 

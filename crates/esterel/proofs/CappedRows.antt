@@ -11,7 +11,7 @@ use lib.Dec.{eqb}
 use lib.ListN.{length}
 use Rattle.sets.specs.Set.{has, only, _union_, _intersect_, _without_, Within}
 use Rattle.sets.proofs.Booleans.{clash, by-cond, eqb-equal}
-use Rattle.sets.proofs.Members.{has-empty, has-only, ext, test-apart}
+use Rattle.sets.proofs.Members.{has-empty, has-only, ext, test-apart, in-right}
 use Rattle.esterel.specs.Statement.{Statement, nothing, pause, gotopause, emit, exit, signal, present, sequence, parallel, loop, try, pauses}
 use Rattle.esterel.specs.Reactions.{State, start, resumed}
 use Rattle.esterel.specs.Trimming.{names}
@@ -20,7 +20,7 @@ use Rattle.esterel.specs.inner.Conditions.{slotOf, seen}
 use Rattle.esterel.specs.inner.Rows.{Row, under, reactions, localRows, hideRows, rowsOf, Agree}
 use Rattle.esterel.specs.inner.CappedRows.{CappedRows, reactionsIn, changeRows, otherwise, givenUp, twiceRows, cappedRows}
 use Rattle.esterel.proofs.Order.{append-left, sorted-in, sorted-of-rising}
-use Rattle.esterel.proofs.Conditions.{in-right, added, removed}
+use Rattle.esterel.proofs.Conditions.{added, removed}
 use Rattle.esterel.proofs.Proper.{all-append, within-none, proper-local, proper-hide}
 use Rattle.esterel.proofs.RowOrder.{RisingRows}
 use Rattle.esterel.proofs.Rows.{lists-append, lists-local, lists-hide, lists-sorted}

@@ -1,13 +1,13 @@
 -- What a condition says, alone, joined to another, and with a slot forgotten.
 use mathlib.Core.Path.{_≡_, refl, sym, ap, _∙_, subst}
-use mathlib.Core.Logic.{_≢_, _⊎_, inl, inr}
+use mathlib.Core.Logic.{_≢_}
 use mathlib.Core.Bool.{Bool, true, false, not, _&&_, _||_}
 use Prim.Native.Nat.{ℕ}
 use native.Mathlib.Decide.{ℕ-discrete}
 use lib.Dec.{eqb}
 use Rattle.sets.specs.Set.{has, only, _union_, _intersect_, _minus_, _without_, Within, Apart}
-use Rattle.sets.proofs.Booleans.{or-left, or-right, or-cases, or-false, and-both, and-cases, not-true, clash, same-bool, eqb-equal}
-use Rattle.sets.proofs.Members.{has-empty, has-union, has-minus, has-only, has-only-equal, has-only-other, has-without-same, has-without-other, ext, union-apart⁻, apart-test, test-apart}
+use Rattle.sets.proofs.Booleans.{or-false, and-both, and-cases, not-true, clash, same-bool, eqb-equal}
+use Rattle.sets.proofs.Members.{has-empty, has-union, has-minus, has-only, has-only-equal, has-only-other, has-without-same, has-without-other, ext, union-apart⁻, apart-test, test-apart, either, in-left, in-right, union-within-both}
 use Rattle.esterel.specs.inner.Conditions.{Condition, condition, always, holds, both, clashes, forget}
 use Rattle.esterel.proofs.Unnamed.{SameBut}
 
@@ -43,23 +43,6 @@ holds-is c F h =
 pub holds-always : (F : ℕ) → holds always F ≡ true
 unfolding always
 holds-always F = holds-is always F (λ x h. clash h (has-empty x), λ x h. clash h (has-empty x))
-
--- a member of a union
-pub either : {C : Type 0} (a b x : ℕ) → has (a union b) x ≡ true → (has a x ≡ true → C) → (has b x ≡ true → C) → C
-either {C} a b x h f g = go (or-cases (has a x) (has b x) (sym (has-union a b x) ∙ h))
-  where
-    go : (has a x ≡ true) ⊎ (has b x ≡ true) → C
-    go (inl k) = f k
-    go (inr k) = g k
-
-pub union-within-both : (a b F : ℕ) → Within a F → Within b F → Within (a union b) F
-union-within-both a b F f g x h = either a b x h (f x) (g x)
-
-pub in-left : (a b x : ℕ) → has a x ≡ true → has (a union b) x ≡ true
-in-left a b x h = has-union a b x ∙ or-left _ h
-
-pub in-right : (a b x : ℕ) → has b x ≡ true → has (a union b) x ≡ true
-in-right a b x h = has-union a b x ∙ or-right (has a x) h
 
 pub holds-both : (c d : Condition) (F : ℕ) → holds (both c d) F ≡ (holds c F && holds d F)
 unfolding both

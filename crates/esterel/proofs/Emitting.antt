@@ -7,12 +7,12 @@ use native.Mathlib.Decide.{decLt}
 use native.Mathlib.Omega.{arith}
 use Rattle.sets.specs.Set.{has, only, _union_, _without_, Within}
 use Rattle.sets.proofs.Booleans.{clash}
-use Rattle.sets.proofs.Members.{has-empty, has-only-equal, has-without-other, fits, past-width}
+use Rattle.sets.proofs.Members.{has-empty, has-only-equal, has-without-other, fits, past-width, either, in-left, in-right}
 use Rattle.esterel.specs.Statement.{Statement, nothing, pause, gotopause, emit, exit, signal, present, sequence, parallel, loop, try}
 use Rattle.esterel.specs.Reactions.{State, Derives}
 use Rattle.esterel.specs.Reactions as rule
 use Rattle.esterel.specs.Stepping.{emittedFree}
-use Rattle.esterel.proofs.Conditions.{either, in-left, in-right, other}
+use Rattle.esterel.proofs.Conditions.{other}
 
 -- ---- sets of emitted signals
 

@@ -1,4 +1,5 @@
 pub mod Premises
+pub mod Sizes
 pub mod Codes
 pub mod Passing
 pub mod Soundness
@@ -8,6 +9,10 @@ pub mod Reachability
 pub mod Levels
 pub mod Unnamed
 pub mod Trimming
+pub mod Idle
+pub mod Jumps
+pub mod Growth
+pub mod GrowthExamples
 pub mod Validity
 pub mod Runs
 pub mod Published

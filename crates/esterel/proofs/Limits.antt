@@ -8,14 +8,14 @@ use lib.Dec.{eqb, ltb}
 use borrow.Author.Tests.{ltb-true, lt-ltb}
 use Rattle.sets.specs.Set.{has, only, _union_, _without_, Within, count}
 use Rattle.sets.proofs.Booleans.{or-neither, clash, not-true, differ-eqb}
-use Rattle.sets.proofs.Members.{has-empty, has-union, has-only-other, has-without-other, union-within}
+use Rattle.sets.proofs.Members.{has-empty, has-union, has-only-other, has-without-other, union-within, in-left, in-right, union-within-both}
 use Rattle.sets.proofs.Counts.{count-within}
 use Rattle.esterel.specs.Statement.{Statement, nothing, pause, gotopause, emit, exit, signal, present, sequence, parallel, loop, try}
 use Rattle.esterel.specs.Reachability.{reach}
 use Rattle.esterel.specs.Trimming.{names, shiftExits, raise, lower, joinParts, canEnd, trimPresent, trim, trimmed}
 use Rattle.esterel.specs.Listing.{nesting}
 use Rattle.esterel.specs.Stepping.{emittedFree, signals, manyFree}
-use Rattle.esterel.proofs.Conditions.{in-left, in-right, union-within-both, other}
+use Rattle.esterel.proofs.Conditions.{other}
 use Rattle.esterel.proofs.Trimming.{by-leaf, by-join, by-signal, by-present, by-loop, by-try}
 
 -- ---- exits count for neither
@@ -67,7 +67,7 @@ module _ (R : ℕ) where
       let e = nesting-shift suc 0 (trim R false q) in
       by-present (λ z. nesting z ≤ max (nesting p) (nesting q)) (canEnd R false p) (trim R false p) (trim R false q) (λ k. omega arith)
       (λ k. by-join (λ z. nesting z ≤ max (nesting p) (nesting q)) sequence (trim R false p) (trim R false q) (λ l. omega arith) (λ l. omega arith) (omega arith))
-      (omega arith)
+      (λ k l. omega arith)
   nesting-trim (sequence p q) b =
       let i = nesting-trim p b in
       let j = nesting-trim q (canEnd R b p) in
@@ -127,7 +127,7 @@ frees-present : (F : ℕ) (ends : Bool) (p q : Statement) → Frees F p → Free
 unfolding emittedFree
 frees-present F ends p q g h =
     by-present (Frees F) ends p q (λ e. g) (λ e. frees-join F sequence p q refl g h)
-    (union-within-both (emittedFree p) (0 union emittedFree (raise q)) F g
+    (λ e i. union-within-both (emittedFree p) (0 union emittedFree (raise q)) F g
     (union-within-both 0 (emittedFree (raise q)) F (frees-nothing F) (subst (λ (m : ℕ). Within m F) (sym (free-shift suc 0 q)) h)))
 
 module _ (R : ℕ) where

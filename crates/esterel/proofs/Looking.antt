@@ -10,7 +10,7 @@ use native.Mathlib.Decide.{ℕ-discrete}
 use lib.Dec.{eqb}
 use Rattle.sets.specs.Set.{has, only, _union_, _minus_, _without_, Within}
 use Rattle.sets.proofs.Booleans.{and-both, and-cases, not-true, clash, eqb-equal, eqb-same}
-use Rattle.sets.proofs.Members.{has-minus-in, has-minus-out, has-only, has-without-other, ext}
+use Rattle.sets.proofs.Members.{has-minus-in, has-minus-out, has-only, has-without-other, ext, in-right}
 use Rattle.esterel.specs.Statement.{Statement}
 use Rattle.esterel.specs.Reactions.{State, Reaction}
 use Rattle.esterel.specs.Runs.{Step}
@@ -21,7 +21,7 @@ use Rattle.esterel.specs.inner.Conditions.{seen, holds}
 use Rattle.esterel.specs.inner.Rows.{Row, Agree}
 use Rattle.esterel.specs.inner.CappedRows.{reactionsIn, cappedRows}
 use Rattle.esterel.specs.inner.Stepping.{StepAmong, rowAssumed, rowSteps, rowAnswer, rowsAnswer, Found, crowded, answer, Looked, over, within}
-use Rattle.esterel.proofs.Conditions.{in-right, other, added}
+use Rattle.esterel.proofs.Conditions.{other, added}
 use Rattle.esterel.proofs.Listing.{list-is-listing}
 use Rattle.esterel.proofs.Needed.{some-in, some-out}
 use Rattle.esterel.proofs.Unknown.{AreRows, of-members}

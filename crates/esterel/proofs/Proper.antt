@@ -8,14 +8,14 @@ use Prim.Native.Nat.{ℕ}
 use lib.Dec.{eqb}
 use Rattle.sets.specs.Set.{has, only, _union_, _intersect_, _without_, Within, Apart}
 use Rattle.sets.proofs.Booleans.{clash, by-cond}
-use Rattle.sets.proofs.Members.{has-empty, has-only, has-only-equal, has-without-other, test-apart}
+use Rattle.sets.proofs.Members.{has-empty, has-only, has-only-equal, has-without-other, test-apart, either, in-left, in-right, union-within-both}
 use Rattle.esterel.specs.Codes.{through}
 use Rattle.esterel.specs.Reactions.{Reaction}
 use Rattle.esterel.specs.Listing.{Listed, reaction, pair}
 use Rattle.esterel.specs.inner.Conditions.{slotOf, seen, Condition, condition, always, both, clashes, forget}
 use Rattle.esterel.specs.inner.Rows.{Row, rowWhen, sure, onlyRows, eachRow, given, then, tested, asked, emitRows, hidden, localRow, localRows, hideRows, followRows, togetherRows, goingRows, caughtRows}
 use Rattle.esterel.specs.inner.CappedRows.{beforeRow, insertRow, sortedRows}
-use Rattle.esterel.proofs.Conditions.{either, in-left, in-right, other, union-within-both}
+use Rattle.esterel.proofs.Conditions.{other}
 use Rattle.esterel.proofs.Slots.{slot-injective, has-seen, seen-added}
 
 -- ---- what holds of every row

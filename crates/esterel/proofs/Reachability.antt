@@ -51,16 +51,19 @@ unfolding nextR contains
 has-nextR p R l =
     has-intersect (pauses p) (labels (join (s p) (d R p))) l ∙ ap (λ b. has (pauses p) l && b) (contains-join (s p) (d R p) (at l))
 
+pub in-nextR : (p : Statement) (R l : ℕ) → has (nextR p R) l ≡ true → (has (pauses p) l ≡ true) × ((has (labels (s p)) l || has (labels (d R p)) l) ≡ true)
+in-nextR p R l h = and-cases (has (pauses p) l) (has (labels (s p)) l || has (labels (d R p)) l) (sym (has-nextR p R l) ∙ h)
+
 pub nextR-mono : (p : Statement) (R R′ : ℕ) → Within R R′ → Within (nextR p R) (nextR p R′)
 unfolding contains
 nextR-mono p R R′ f l h =
-    let t = and-cases (has (pauses p) l) (has (labels (s p)) l || has (labels (d R p)) l) (sym (has-nextR p R l) ∙ h) in
+    let t = in-nextR p R l h in
     has-nextR p R′ l
     ∙ and-both (has (pauses p) l) (has (labels (s p)) l || has (labels (d R′ p)) l) (t .0)
     (or-mono (has (labels (s p)) l) (has (labels (d R p)) l) (has (labels (s p)) l) (has (labels (d R′ p)) l) (λ u. u) (d-mono R R′ p f (at l)) (t .1))
 
 pub nextR-pauses : (p : Statement) (R : ℕ) → Within (nextR p R) (pauses p)
-nextR-pauses p R l h = and-cases (has (pauses p) l) (has (labels (s p)) l || has (labels (d R p)) l) (sym (has-nextR p R l) ∙ h) .0
+nextR-pauses p R l h = in-nextR p R l h .0
 
 -- ---- Many rounds
 pub afterRounds-grows : (p : Statement) (i : ℕ) → Within (afterRounds p i) (afterRounds p (suc i))
@@ -188,12 +191,11 @@ reach-closed p l h k =
     ∙ and-both (has (pauses p) l) (has (labels (s p)) l || has (labels (d (reach p .set) p)) l) h k
 
 -- and R is the least such set (the paper's fixed point)
-afterRounds-least : (p : Statement) (R : ℕ) → Closed p R → (i : ℕ) → Within (afterRounds p i) R
+pub afterRounds-least : (p : Statement) (R : ℕ) → Closed p R → (i : ℕ) → Within (afterRounds p i) R
 unfolding afterRounds
 afterRounds-least p R c zero l h = clash h (has-empty l)
 afterRounds-least p R c (suc i) l h =
-    let u = nextR-mono p (afterRounds p i) R (afterRounds-least p R c i) l h in
-    let (a, b) = and-cases (has (pauses p) l) (has (labels (s p)) l || has (labels (d R p)) l) (sym (has-nextR p R l) ∙ u) in
+    let (a, b) = in-nextR p R l (nextR-mono p (afterRounds p i) R (afterRounds-least p R c i) l h) in
     c l a b
 
 pub reach-least : (p : Statement) (R : ℕ) → Closed p R → Within (reach p .set) R

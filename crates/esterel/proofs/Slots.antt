@@ -7,10 +7,10 @@ use native.Mathlib.Decide.{decLt}
 use native.Mathlib.Omega.{arith}
 use Rattle.sets.specs.Set.{has, only, _union_, _without_, Within, count}
 use Rattle.sets.proofs.Booleans.{and-both, and-cases, not-true, clash, same-bool}
-use Rattle.sets.proofs.Members.{has-empty, has-only, has-only-equal, has-without-other, within-ext, has-below, fits, past-width}
+use Rattle.sets.proofs.Members.{has-empty, has-only, has-only-equal, has-without-other, within-ext, has-below, fits, past-width, either, in-left, in-right}
 use Rattle.esterel.specs.inner.Conditions.{slotOf, seenBelow, seen}
 use Rattle.esterel.proofs.Unnamed.{SameBut}
-use Rattle.esterel.proofs.Conditions.{either, in-left, in-right, other}
+use Rattle.esterel.proofs.Conditions.{other}
 
 -- ---- slots
 

@@ -10,14 +10,13 @@ use native.Mathlib.Omega.{arith}
 use lib.Dec.{eqb}
 use Rattle.sets.specs.Set.{has, only, _union_, _minus_, Within}
 use Rattle.sets.proofs.Booleans.{and-cases, not-true, clash, by-cond, same-bool, eqb-equal, eqb-same}
-use Rattle.sets.proofs.Members.{has-minus-in, has-minus-out, has-only, has-only-equal, within-ext}
+use Rattle.sets.proofs.Members.{has-minus-in, has-minus-out, has-only, has-only-equal, within-ext, either, in-left, in-right, union-within-both}
 use Rattle.esterel.specs.Statement.{Statement}
 use Rattle.esterel.specs.Reactions.{State, Reaction, Reacts}
 use Rattle.esterel.specs.Runs.{Step}
 use Rattle.esterel.specs.Listing.{Listed, list, listing}
 use Rattle.esterel.specs.Stepping.{StepFrom, Answer, one, none, several, Says, IsAnswer, emittedFree, madeOf, signals, lookedAt, same, combined, answerUnder, answerAmong, stepping}
 use Rattle.esterel.specs.inner.Rows.{Agree}
-use Rattle.esterel.proofs.Conditions.{either, in-left, in-right, union-within-both}
 use Rattle.esterel.proofs.Emitting.{emitted-free}
 use Rattle.esterel.proofs.Order.{append-left, append-right, append-cases, same-reaction}
 use Rattle.esterel.proofs.Listing.{list-is-listing}

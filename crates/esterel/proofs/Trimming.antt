@@ -2,15 +2,15 @@
 -- trimmed form have the same reactions in every state that R and b allow. By induction on the statement: each construct takes
 -- reactions of its parts to reactions of the whole, and what trimming drops is nothing or can't be reached.
 use mathlib.Core.Path.{_≡_, refl, sym, ap, ap₂, _∙_, subst}
-use mathlib.Core.Logic.{_↔_, _≢_, _⊎_, inl, inr}
+use mathlib.Core.Logic.{_↔_, _≢_}
 use mathlib.Core.Bool.{Bool, true, false, not, _||_, cond}
 use Prim.Native.Nat.{ℕ, suc, pred}
 use native.Mathlib.Nat.{zero-max, max-zero}
 use native.Mathlib.Decide.{ℕ-discrete}
 use native.Mathlib.Omega.{arith}
 use Rattle.sets.specs.Set.{has, only, _union_, _intersect_, _without_, Apart, Within}
-use Rattle.sets.proofs.Booleans.{or-left, or-right, or-neither, or-cases, and-both, not-true, clash, by-cond}
-use Rattle.sets.proofs.Members.{has-empty, has-union, has-intersect, has-only, has-only-equal, empty-union, union-empty, union-within}
+use Rattle.sets.proofs.Booleans.{or-neither, and-both, not-true, clash, by-cond}
+use Rattle.sets.proofs.Members.{has-empty, has-intersect, has-only, has-only-equal, empty-union, union-empty, either, in-left, in-right, union-within}
 use Rattle.esterel.specs.Statement.{Statement, nothing, pause, gotopause, emit, exit, signal, present, sequence, parallel, loop, try, pauses}
 use Rattle.esterel.specs.Trimming.{isNothing, joinParts, names, endsAt, raise, lower, canEnd, trimLoop, trimSignal, trimPresent, trimTry, trim}
 use Rattle.esterel.specs.Reactions.{State, start, resumed, Derives, reachedTogether}
@@ -45,21 +45,35 @@ by-join P f p q g h k =
     by-cond P (isNothing p) q (cond (isNothing q) p (f p q)) (λ e. g (is-nothing p e))
     (λ e. by-cond P (isNothing q) p (f p q) (λ i. h (is-nothing q i)) (λ i. k))
 
+pub join-first : (f : Statement → Statement → Statement) (p q : Statement) → isNothing q ≡ true → joinParts f p q ≡ p
+unfolding joinParts
+join-first f p q h = go (isNothing p) refl
+  where
+    go : (x : Bool) → isNothing p ≡ x → cond x q (cond (isNothing q) p (f p q)) ≡ p
+    go true e = is-nothing q h ∙ sym (is-nothing p e)
+    go false e = rw h
+
+pub join-both : (f : Statement → Statement → Statement) (p q : Statement) → isNothing p ≡ false → isNothing q ≡ false → joinParts f p q ≡ f p q
+unfolding joinParts
+join-both f p q h k = rw (h, k)
+
 pub by-signal {ℓ} : (P : Statement → Type ℓ) (S : ℕ) (p : Statement)
     → P (signal S p) → (names S p ≡ false → P p) → P (trimSignal S p)
 unfolding trimSignal
 by-signal P S p f g = by-cond P (names S p) (signal S p) p (λ e. f) g
 
 pub by-present {ℓ} : (P : Statement → Type ℓ) (ends : Bool) (p q : Statement)
-    → (q ≡ nothing → P p) → (ends ≡ false → P (joinParts sequence p q)) → P (sequence p (behindExit q)) → P (trimPresent ends p q)
+    → (q ≡ nothing → P p) → (ends ≡ false → P (joinParts sequence p q)) → (ends ≡ true → isNothing q ≡ false → P (sequence p (behindExit q)))
+    → P (trimPresent ends p q)
 unfolding trimPresent
 by-present P ends p q f g h =
     by-cond P (isNothing q) p (cond (not ends) (joinParts sequence p q) (sequence p (behindExit q))) (λ e. f (is-nothing q e))
-    (λ e. go ends g)
+    (λ e. go ends g (λ i. h i e))
   where
-    go : (ends : Bool) → (ends ≡ false → P (joinParts sequence p q)) → P (cond (not ends) (joinParts sequence p q) (sequence p (behindExit q)))
-    go true g = h
-    go false g = g refl
+    go : (ends : Bool) → (ends ≡ false → P (joinParts sequence p q)) → (ends ≡ true → P (sequence p (behindExit q)))
+        → P (cond (not ends) (joinParts sequence p q) (sequence p (behindExit q)))
+    go true g h = h refl
+    go false g h = g refl
 
 pub by-loop {ℓ} : (P : Statement → Type ℓ) (ends b : Bool) (body : Bool → Statement)
     → (ends ≡ true → P (loop (body true))) → (ends ≡ false → P (body b)) → P (trimLoop ends b body)
@@ -86,7 +100,7 @@ pauses-present ends p q =
     by-present (λ z. pauses z ≡ pauses p union pauses q) ends p q
     (λ e. sym (ap (λ z. pauses p union pauses z) e ∙ union-empty (pauses p)))
     (λ e. pauses-join sequence p q refl)
-    (ap (λ (z : ℕ). pauses p union z) (empty-union (pauses (raise q)) ∙ pauses-shift suc 0 q))
+    (λ e i. ap (λ (z : ℕ). pauses p union z) (empty-union (pauses (raise q)) ∙ pauses-shift suc 0 q))
 
 pub pauses-try : (p : Statement) → pauses (trimTry p) ≡ pauses p
 unfolding pauses
@@ -96,12 +110,6 @@ pub pauses-signal : (S : ℕ) (p : Statement) → pauses (trimSignal S p) ≡ pa
 unfolding pauses
 pauses-signal S p = by-signal (λ z. pauses z ≡ pauses p) S p refl (λ e. refl)
 
-within-left : (a b : ℕ) → Within a (a union b)
-within-left a b l h = has-union a b l ∙ or-left _ h
-
-within-right : (a b : ℕ) → Within b (a union b)
-within-right a b l h = has-union a b l ∙ or-right (has a l) h
-
 -- the labels t are those of a that are in R, and perhaps others of a
 abbrev pub Between : ℕ → ℕ → ℕ → Type 0
 Between R a t = Within t a × MeetIn t R a
@@ -110,11 +118,8 @@ between-itself : (R a : ℕ) → Between R a a
 between-itself R a = (λ l h. h, λ l k h. h)
 
 between-union : (R a t b u : ℕ) → Between R a t → Between R b u → Between R (a union b) (t union u)
-between-union R a t b u f g = (union-within t u a b (f .0) (g .0), λ l k h. go l k (or-cases (has a l) (has b l) (sym (has-union a b l) ∙ h)))
-  where
-    go : (l : ℕ) → has R l ≡ true → (has a l ≡ true) ⊎ (has b l ≡ true) → has (t union u) l ≡ true
-    go l k (inl h) = within-left t u l (f .1 l k h)
-    go l k (inr h) = within-right t u l (g .1 l k h)
+between-union R a t b u f g =
+    (union-within t u a b (f .0) (g .0), λ l k h. either a b l h (λ m. in-left t u l (f .1 l k m)) (λ m. in-right t u l (g .1 l k m)))
 
 module _ (R : ℕ) where
   leaf-pauses : (b : Bool) (p : Statement) → pauses p ≡ 0 → Between R (pauses p) (pauses (cond b p nothing))
@@ -359,7 +364,7 @@ module _ (R : ℕ) where
       (λ e. (only-p e, λ E O k L r. rule.present-left (f .1 E O k L r)))
       (λ n. then (present S p q) (sequence p′ q′) (joinParts sequence p′ q′) (resumed X) (one-by-one n, one-by-one⁻ n)
       (drop-parts sequence (resumed X) (λ q. before-seq q (resumed X)) (λ p. after-seq p (resumed X)) p′ q′))
-      (guarded, guarded⁻)
+      (λ e i. (guarded, guarded⁻))
     where
       only-p : q′ ≡ nothing → Into (present S p q) p′ (resumed X)
       only-p e E O k L (rule.present-left r) = f .0 E O k L r
@@ -417,18 +422,18 @@ module _ (R : ℕ) where
   same (exit e) b x w v = same-leaf (exit e) (λ X E O k L r. exit-not-resumed r) b x v
   same (signal S p) b x w v = same-signal S p (trim R b p) x (same p b x w (allowed-part b (signal S p) p x (λ l h. h) v))
   same (present S p q) true x w v =
-      let f = same p true x (w .0) (allowed-part true (present S p q) p x (within-left (pauses p) (pauses q)) v) in
-      let g = same q true x (w .1) (allowed-part true (present S p q) q x (within-right (pauses p) (pauses q)) v) in
+      let f = same p true x (w .0) (allowed-part true (present S p q) p x (in-left (pauses p) (pauses q)) v) in
+      let g = same q true x (w .1) (allowed-part true (present S p q) q x (in-right (pauses p) (pauses q)) v) in
       (present-into S p (trim R true p) q (trim R true q) x (f .0) (g .0), present-into S (trim R true p) p (trim R true q) q x (f .1) (g .1))
   same (present S p q) false start w v = clash v refl
   same (present S p q) false (resumed X) w v =
-      let u = allowed-part false (present S p q) p (resumed X) (within-left (pauses p) (pauses q)) v in
+      let u = allowed-part false (present S p q) p (resumed X) (in-left (pauses p) (pauses q)) v in
       same-present S p q X (w .0) u (trim R false p) (trim R false q) (same p false (resumed X) (w .0) u)
-      (same q false (resumed X) (w .1) (allowed-part false (present S p q) q (resumed X) (within-right (pauses p) (pauses q)) v))
+      (same q false (resumed X) (w .1) (allowed-part false (present S p q) q (resumed X) (in-right (pauses p) (pauses q)) v))
   same (sequence p q) b x w v =
       let c : Bool = canEnd R b p in
-      let u = allowed-part b (sequence p q) p x (within-left (pauses p) (pauses q)) v in
-      let y = allowed-part b (sequence p q) q x (within-right (pauses p) (pauses q)) v in
+      let u = allowed-part b (sequence p q) p x (in-left (pauses p) (pauses q)) v in
+      let y = allowed-part b (sequence p q) q x (in-right (pauses p) (pauses q)) v in
       let f = same p b x (w .0) u in
       then (sequence p q) (sequence (trim R b p) (trim R c q)) (joinParts sequence (trim R b p) (trim R c q)) x (
         seq-into p (trim R b p) q (trim R c q) x (f .0)
@@ -440,8 +445,8 @@ module _ (R : ℕ) where
       )
       (drop-parts sequence x (λ q. before-seq q x) (λ p. after-seq p x) (trim R b p) (trim R c q))
   same (parallel p q) b x w v =
-      let u = allowed-part b (parallel p q) p x (within-left (pauses p) (pauses q)) v in
-      let y = allowed-part b (parallel p q) q x (within-right (pauses p) (pauses q)) v in
+      let u = allowed-part b (parallel p q) p x (in-left (pauses p) (pauses q)) v in
+      let y = allowed-part b (parallel p q) q x (in-right (pauses p) (pauses q)) v in
       let f = same p b x (w .0) u in
       let g = same q b x (w .1) y in
       then (parallel p q) (parallel (trim R b p) (trim R b q)) (joinParts parallel (trim R b p) (trim R b q)) x (

@@ -11,7 +11,7 @@ use native.Mathlib.Omega.{arith}
 use lib.Dec.{eqb}
 use Rattle.sets.specs.Set.{has, only, _union_, _intersect_, _minus_, _without_, Within}
 use Rattle.sets.proofs.Booleans.{not-true, clash, by-cond}
-use Rattle.sets.proofs.Members.{has-union, has-intersect, has-minus, has-only, has-only-equal, has-below, within-ext, fits, apart-sym}
+use Rattle.sets.proofs.Members.{has-union, has-intersect, has-minus, has-only, has-only-equal, has-below, within-ext, fits, apart-sym, union-within-both, either, in-left, in-right}
 use Rattle.esterel.specs.Statement.{Statement, nothing, pause, gotopause, emit, exit, signal, present, sequence, parallel, loop, try, pauses}
 use Rattle.esterel.specs.Reactions.{State, start, resumed, Reaction, Reacts}
 use Rattle.esterel.specs.Listing.{Listed, Before, Rising, sorted, one, onlyIf, hide, list}
@@ -21,7 +21,7 @@ use Rattle.esterel.proofs.Unnamed.{SameBut}
 use Rattle.esterel.proofs.Emitting.{emitted-assumed}
 use Rattle.esterel.proofs.Order.{sorted-in, sorted-out, sorted-rising, same-list}
 use Rattle.esterel.proofs.Listing.{list-rising, list-is-listing}
-use Rattle.esterel.proofs.Conditions.{holds-is, union-within-both, either, in-left, in-right, added, removed}
+use Rattle.esterel.proofs.Conditions.{holds-is, added, removed}
 use Rattle.esterel.proofs.Slots.{below, seen-slot, has-seen, seen-empty, seen-but, seen-fits, those, has-those}
 use Rattle.esterel.proofs.Proper.{All, none, more, all-append, all-cond, all-out, Proper, within-none, silent, proper-emit, proper-asked, proper-local, proper-hide, proper-follow, proper-together, proper-going, proper-caught}
 use Rattle.esterel.proofs.RowOrder.{LessOr, BeforeRow, RisingRows}

@@ -1,18 +1,18 @@
--- What a table asks of its statement holds of the trimmed statement too, and how large that can be. Levels stay in range
+-- What a table asks of its statement holds of the trimmed statement too, but for its size and depth. Levels stay in range
 -- because try statements nest in the trimmed statement less deep than nodes in the statement.
 use mathlib.Core.Path.{_≡_, refl, sym, ap, ap₂, subst}
 use mathlib.Core.Logic.{inl, inr}
 use mathlib.Core.Bool.{Bool, true, false, _||_}
-use Prim.Native.Nat.{ℕ, suc, pred, _+_, _*_, _≤_, _<_, max}
+use Prim.Native.Nat.{ℕ, suc, pred, _+_, _≤_, _<_, max}
 use native.Mathlib.Omega.{arith}
 use Rattle.sets.specs.Set.{has, Apart}
 use Rattle.sets.proofs.Booleans.{not-true, clash}
 use Rattle.sets.proofs.Members.{has-empty, empty-union}
-use Rattle.esterel.specs.Statement.{Statement, nothing, pause, gotopause, emit, exit, signal, present, sequence, parallel, loop, try, pauses, size, depth, Valid}
+use Rattle.esterel.specs.Statement.{Statement, nothing, pause, gotopause, emit, exit, signal, present, sequence, parallel, loop, try, pauses, depth, Valid}
 use Rattle.esterel.specs.Reachability.{reach}
 use Rattle.esterel.specs.Trimming.{shiftLevel, shiftExits, raise, lower, joinParts, canEnd, trimPresent, trimTry, trim, trimmed}
 use Rattle.esterel.proofs.Premises.{LevelsFromOne}
-use Rattle.esterel.proofs.Levels.{Shifted, shifted, pauses-shift, size-shift, raise-lower}
+use Rattle.esterel.proofs.Levels.{Shifted, shifted, pauses-shift, raise-lower}
 use Rattle.esterel.proofs.Trimming.{by-leaf, by-join, by-signal, by-present, by-loop, by-try, kept-pauses}
 
 -- a valid statement has levels of at least 1
@@ -58,18 +58,18 @@ nested-shift f c (parallel p q) = ap₂ max (nested-shift f c p) (nested-shift f
 nested-shift f c (loop p) = nested-shift f c p
 nested-shift f c (try p) = ap suc (nested-shift f (suc c) p)
 
--- a measure of what is left of two parts is that of either, or of both
-bound-join : (m : Statement → ℕ) (f : Statement → Statement → Statement) (p q : Statement) (n : ℕ)
-    → m p < n → m q < n → m (f p q) < n → m (joinParts f p q) < n
-bound-join m f p q n u v w = by-join (λ z. m z < n) f p q (λ e. v) (λ e. u) w
+-- what is left of two parts is one of them, or both
+nested-join : (f : Statement → Statement → Statement) (p q : Statement) (n : ℕ)
+    → nestedTries p < n → nestedTries q < n → nestedTries (f p q) < n → nestedTries (joinParts f p q) < n
+nested-join f p q n u v w = by-join (λ z. nestedTries z < n) f p q (λ e. v) (λ e. u) w
 
 -- a resumed present adds one try, and takes one level of depth
 nested-present : (ends : Bool) (p q : Statement) (n : ℕ) → nestedTries p < n → nestedTries q < n → nestedTries (trimPresent ends p q) < suc n
 unfolding nestedTries
 nested-present ends p q n u v =
     by-present (λ z. nestedTries z < suc n) ends p q (λ e. omega arith)
-    (λ e. bound-join nestedTries sequence p q (suc n) (omega arith) (omega arith) (omega arith))
-    (let e = nested-shift suc 0 q in omega arith)
+    (λ e. nested-join sequence p q (suc n) (omega arith) (omega arith) (omega arith))
+    (λ i j. let e = nested-shift suc 0 q in omega arith)
 
 module _ (R : ℕ) where
   pub nested-trim : (p : Statement) (b : Bool) → nestedTries (trim R b p) < depth p
@@ -90,11 +90,11 @@ module _ (R : ℕ) where
   nested-trim (sequence p q) b =
       let i = nested-trim p b in
       let j = nested-trim q (canEnd R b p) in
-      bound-join nestedTries sequence (trim R b p) (trim R (canEnd R b p) q) (suc (max (depth p) (depth q))) (omega arith) (omega arith) (omega arith)
+      nested-join sequence (trim R b p) (trim R (canEnd R b p) q) (suc (max (depth p) (depth q))) (omega arith) (omega arith) (omega arith)
   nested-trim (parallel p q) b =
       let i = nested-trim p b in
       let j = nested-trim q b in
-      bound-join nestedTries parallel (trim R b p) (trim R b q) (suc (max (depth p) (depth q))) (omega arith) (omega arith) (omega arith)
+      nested-join parallel (trim R b p) (trim R b q) (suc (max (depth p) (depth q))) (omega arith) (omega arith) (omega arith)
   nested-trim (loop p) b =
       let i = nested-trim p b in
       let j = nested-trim p true in
@@ -102,40 +102,6 @@ module _ (R : ℕ) where
   nested-trim (try p) b =
       let i = nested-trim p b in
       by-try (λ z. nestedTries z < suc (depth p)) (trim R b p) (omega arith) (λ e. let j = nested-shift pred 0 (trim R b p) in omega arith)
-
-  -- ---- how many nodes the trimmed statement has
-  pub size-trim : (p : Statement) (b : Bool) → size (trim R b p) < 4 * size p
-  unfolding trim size
-  size-trim nothing b = omega arith
-  size-trim (pause l) b = by-leaf (λ z. size z < 4) (b || has R l) (pause l) (omega arith) (omega arith)
-  size-trim (gotopause l) b = by-leaf (λ z. size z < 4) b (gotopause l) (omega arith) (omega arith)
-  size-trim (emit S) b = by-leaf (λ z. size z < 4) b (emit S) (omega arith) (omega arith)
-  size-trim (exit e) b = by-leaf (λ z. size z < 4) b (exit e) (omega arith) (omega arith)
-  size-trim (signal S p) b =
-      let i = size-trim p b in
-      by-signal (λ z. size z < 4 * suc (size p)) S (trim R b p) (omega arith) (λ e. omega arith)
-  size-trim (present S p q) true = let i = size-trim p true in let j = size-trim q true in omega arith
-  size-trim (present S p q) false =
-      let i = size-trim p false in
-      let j = size-trim q false in
-      by-present (λ z. size z < 4 * suc (size p + size q)) (canEnd R false p) (trim R false p) (trim R false q) (λ e. omega arith)
-      (λ e. bound-join size sequence (trim R false p) (trim R false q) (4 * suc (size p + size q)) (omega arith) (omega arith) (omega arith))
-      (let e = size-shift suc 0 (trim R false q) in omega arith)
-  size-trim (sequence p q) b =
-      let i = size-trim p b in
-      let j = size-trim q (canEnd R b p) in
-      bound-join size sequence (trim R b p) (trim R (canEnd R b p) q) (4 * suc (size p + size q)) (omega arith) (omega arith) (omega arith)
-  size-trim (parallel p q) b =
-      let i = size-trim p b in
-      let j = size-trim q b in
-      bound-join size parallel (trim R b p) (trim R b q) (4 * suc (size p + size q)) (omega arith) (omega arith) (omega arith)
-  size-trim (loop p) b =
-      let i = size-trim p b in
-      let j = size-trim p true in
-      by-loop (λ z. size z < 4 * suc (size p)) (canEnd R b p) b (λ c. trim R c p) (λ e. omega arith) (λ e. omega arith)
-  size-trim (try p) b =
-      let i = size-trim p b in
-      by-try (λ z. size z < 4 * suc (size p)) (trim R b p) (omega arith) (λ e. let j = size-shift pred 0 (trim R b p) in omega arith)
 
 -- ---- shifted statements
 apart-shift : (j : ℕ) (p q : Statement) → Apart (pauses p) (pauses q) → Apart (pauses (shiftExits suc j p)) (pauses (shiftExits suc j q))
@@ -195,7 +161,7 @@ valid-present : (c : ℕ) (ends : Bool) (p q : Statement) → suc c + nestedTrie
 unfolding Valid pauses
 valid-present c ends p q h v w a =
     by-present (Valid c) ends p q (λ e. v) (λ e. valid-join c sequence p q v w (v, w, a))
-    (v, ((omega arith, omega arith, omega arith), valid-raise 0 c q h w, λ x u. clash u (has-empty x)), rw (empty-union (pauses (raise q)), pauses-shift suc 0 q) a)
+    (λ e i. (v, ((omega arith, omega arith, omega arith), valid-raise 0 c q h w, λ x u. clash u (has-empty x)), rw (empty-union (pauses (raise q)), pauses-shift suc 0 q) a))
 
 module _ (R : ℕ) where
   still-apart : (p q : Statement) (b c : Bool) → Apart (pauses p) (pauses q) → Apart (pauses (trim R b p)) (pauses (trim R c q))
@@ -235,7 +201,3 @@ module _ (R : ℕ) where
 pub valid-trimmed : (p : Statement) → depth p ≤ 60 → Valid 0 p → Valid 0 (trimmed p)
 unfolding trimmed
 valid-trimmed p h v = valid-trim (reach p .set) 0 p true (omega arith) v
-
-pub size-trimmed : (p : Statement) → size (trimmed p) < 4 * size p
-unfolding trimmed
-size-trimmed p = size-trim (reach p .set) p true

@@ -2,6 +2,7 @@ pub mod Statement
 pub mod Codes
 pub mod Reachability
 pub mod Trimming
+pub mod Shares
 pub mod Reactions
 pub mod Runs
 pub mod Listing

@@ -1,7 +1,9 @@
 // The three counters of Esterel*: labels, exit levels and completion codes. No number is taken from one to another but here.
+// And the share of a program that was kept.
 ghost use mathlib.Core.Path.{_≡_};
-ghost use Prim.Native.Nat.{max};
+ghost use Prim.Native.Nat.{_≤_, max};
 ghost use Rattle.esterel.specs.Codes.{codeOf, through};
+ghost use Rattle.esterel.specs.Shares.{thousandths, remainder};
 
 // The label of a pause, 1 to 63.
 pub struct Label(pub u8);
@@ -38,4 +40,23 @@ pub fn larger(a: u16, b: u16) -> u16
     ensures { λ r. ⌜ r ≡ max a b ⌝ }
 {
     if a < b { b } else { a }
+}
+
+// The share of a program that was kept: whole thousandths of its nodes, and the remainder of that division.
+pub struct Share {
+    pub thousandths: u32,
+    pub remainder: u32,
+}
+
+// From the nodes of the program and those of the trimmed one.
+pub fn share_of(before: u16, after: u16) -> Share
+    requires { ⌜ 1 ≤ before ⌝ }
+    ensures { λ r. ⌜ (r .thousandths ≡ thousandths before after) × (r .remainder ≡ remainder before after) ⌝ }
+{
+    let dividend = 1000 * after as u32;
+    let divisor = before as u32;
+    Share {
+        thousandths: dividend / divisor,
+        remainder: dividend % divisor,
+    }
 }

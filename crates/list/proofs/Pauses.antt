@@ -11,9 +11,8 @@ use lib.ListN.{take, drop, getD}
 use lib.Seq.{drop-cons, drop-drop, getD-take, length-take-le}
 use borrow.Author.Tests.{eq-eqb, ne-eqb}
 use Rattle.sets.specs.Set.{has, only, _union_, Apart, count}
-use Rattle.sets.proofs.Members.{has-empty, has-union, has-only, has-only-other, empty-union, union-empty, union-assoc}
-use Rattle.sets.proofs.Counts.{count-more, count-width}
-use Rattle.esterel.proofs.Conditions.{in-left, in-right}
+use Rattle.sets.proofs.Members.{has-empty, has-union, has-only, has-only-other, empty-union, union-empty, union-assoc, in-left, in-right}
+use Rattle.sets.proofs.Counts.{count-more, count-labels}
 use Rattle.esterel.specs.Statement.{Statement, nothing, pause, gotopause, emit, exit, signal, present, sequence, parallel, loop, try, pauses, Valid}
 use Rattle.table.specs.Reading.{kindOfNode, operandOf}
 use Rattle.table.specs.Writing.{node, nodes}
@@ -66,10 +65,7 @@ counted (x ∷ xs) d = go (counted xs (d .1)) (ℕ-discrete (kindOfNode x) 1)
 at-most-63 : (xs : List ℕ) → Distinct xs → pausesIn xs ≤ 63
 at-most-63 xs d =
     let (c, z) = counted xs d in
-    let l = labelsIn xs in
-    let k = count-more 64 l (only 0 union l) 0 (in-right (only 0) l) (omega arith) z (in-left (only 0) l 0 (has-only 0)) in
-    let w = count-width 64 (only 0 union l) in
-    omega (arith, c, k, w)
+    omega (arith, c, count-labels (labelsIn xs) z)
 
 distinct-drop : (i : ℕ) (xs : List ℕ) → Distinct xs → Distinct (drop i xs)
 unfolding Distinct

@@ -9,9 +9,8 @@ use lib.ListN.{getD}
 use Rattle.sets.specs.Set.{has, only, _union_, Within, count}
 use Rattle.sets.proofs.Booleans.{or-cases, clash}
 use Rattle.sets.proofs.Counts.{count-empty, count-only, count-union, count-narrow}
-use Rattle.sets.proofs.Members.{has-empty, has-union, has-only-equal}
+use Rattle.sets.proofs.Members.{has-empty, has-union, has-only-equal, in-left}
 use Rattle.esterel.specs.inner.Conditions.{slotOf}
-use Rattle.esterel.proofs.Conditions.{in-left}
 use Rattle.lister.specs.inner.Notes.{EndsFrom, Startable}
 use Rattle.lister.specs.inner.Slots.{Slotted}
 

@@ -8,10 +8,11 @@ use native.Mathlib.Omega.{arith}
 use native.Mathlib.Decide.{decLt}
 use lib.ListN.{length, getD}
 use Rattle.esterel.specs.Statement.{Statement, nothing, pause, gotopause, emit, exit, signal, present, sequence, parallel, loop, try, size, depth}
+use Rattle.esterel.proofs.Sizes.{size-positive}
 use Rattle.table.specs.Kinds.{kinds, kindOf}
 use Rattle.table.specs.Reading.{kindOfNode, operandOf}
 use Rattle.table.specs.inner.Places.{Placed, placed, placeOne, placeTwo, placeKind, statementAt, Known}
-use Rattle.table.proofs.Places.{placed-node, placed-none, size-positive, next-short, two-same, deeper-same}
+use Rattle.table.proofs.Places.{placed-node, placed-none, next-short, two-same, deeper-same}
 use Rattle.lister.specs.inner.Notes.{placeAt, partAt, ReadWhole}
 
 -- no node is of a kind above 10

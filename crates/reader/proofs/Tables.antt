@@ -10,6 +10,7 @@ use lib.ListN.{length, take, drop, length-drop}
 use lib.Seq.{take-all}
 use borrow.Author.Tests.{lt-ltb, le-ltb}
 use Rattle.esterel.specs.Statement.{Statement, size}
+use Rattle.esterel.proofs.Sizes.{size-positive}
 use Rattle.table.specs.declared.Checked.{Checked}
 use Rattle.table.specs.declared.Checked.the-variants as checked
 use Rattle.table.specs.Outcomes.{values, numberOf, fitted, bufferAfter}
@@ -18,7 +19,6 @@ use Rattle.table.specs.Writing.{nodes, writeNodes, write}
 use Rattle.table.specs.inner.Loading.{loadedOf}
 use Rattle.table.specs.inner.Making.{Writable}
 use Rattle.table.proofs.Nodes.{length-nodes}
-use Rattle.table.proofs.Places.{size-positive}
 use Rattle.table.proofs.Fields.{headed-accepted, headed-written, nodes-written}
 use Rattle.table.proofs.ReadBack.{Ranged}
 use Rattle.table.proofs.RoundTrip.{below-nodes, length-write, never-another}

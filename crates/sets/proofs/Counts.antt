@@ -1,7 +1,7 @@
 -- How many members a set has below w: a set strictly within another has fewer; and how a word counts them.
 use mathlib.Core.Path.{_≡_, refl, sym, ap, _∙_}
 use mathlib.Core.Logic.{_⊎_, inl, inr}
-use mathlib.Core.Bool.{Bool, true, false, not, _||_, cond}
+use mathlib.Core.Bool.{Bool, true, false, not, _&&_, _||_, cond}
 use Prim.Native.Nat.{ℕ, zero, suc, _+_, _/_, _%_, _^_, _≤_, _<_}
 use native.Mathlib.Decide.{ℕ-discrete}
 use native.Mathlib.Nat.{mod-lt, mod-eq-of-lt}
@@ -9,9 +9,9 @@ use native.Mathlib.Omega.{arith}
 use lib.Dec.{eqb}
 use lib.Count.{onesIn, ones, ones-cat}
 use lib.Pow.{pow-pos, mod-pow-add}
-use Rattle.sets.specs.Set.{has, only, _union_, _without_, Within, count}
+use Rattle.sets.specs.Set.{has, only, _union_, _intersect_, _without_, Within, Apart, count}
 use Rattle.sets.proofs.Booleans.{and-cases, clash, not-true}
-use Rattle.sets.proofs.Members.{bit, has-shift, has-empty, has-union, has-minus, has-only, has-only-other, has-without-same}
+use Rattle.sets.proofs.Members.{bit, has-shift, has-empty, has-union, in-left, in-right, has-intersect, has-minus, has-only, has-only-other, has-without-same}
 
 bit-mono : (a b : Bool) → (a ≡ true → b ≡ true) → cond a 1 0 ≤ cond b 1 0
 bit-mono true true f = omega arith
@@ -90,6 +90,31 @@ pub count-union : (w a b : ℕ) → count w (a union b) ≤ count w a + count w 
 unfolding count
 count-union zero a b = omega arith
 count-union (suc w) a b = rw (has-union a b w) (let i = count-union w a b in let j = bit-or (has a w) (has b w) in omega arith)
+
+bit-apart : (a b c : Bool) → (a ≡ true → b ≡ false) → cond (a && c) 1 0 + cond (b && c) 1 0 ≤ cond ((a || b) && c) 1 0
+bit-apart true true c f = clash refl (f refl)
+bit-apart true false true f = omega arith
+bit-apart true false false f = omega arith
+bit-apart false b c f = omega arith
+
+-- what two sets with no member in common have of c, their union has
+pub count-apart : (w a b c : ℕ) → Apart a b → count w (a intersect c) + count w (b intersect c) ≤ count w ((a union b) intersect c)
+unfolding count
+count-apart zero a b c f = omega arith
+count-apart (suc w) a b c f =
+    rw (has-intersect a c w, has-intersect b c w, has-intersect (a union b) c w, has-union a b w)
+    (let i = count-apart w a b c f in let j = bit-apart (has a w) (has b w) (has c w) (f w) in omega arith)
+
+-- a set with a member below w
+pub count-some : (w a l : ℕ) → l < w → has a l ≡ true → 1 ≤ count w a
+count-some w a l i h = let j = count-more w 0 a l (λ x k. clash k (has-empty x)) i (has-empty l) h in let e = count-empty w in omega arith
+
+-- a set of labels, of which 0 is none
+pub count-labels : (a : ℕ) → has a 0 ≡ false → count 64 a ≤ 63
+count-labels a z =
+    let i = count-more 64 a (only 0 union a) 0 (in-right (only 0) a) (omega arith) z (in-left (only 0) a 0 (has-only 0)) in
+    let j = count-width 64 (only 0 union a) in
+    omega arith
 
 -- where all members are below v, counting further finds no more
 pub count-narrow : (m v d : ℕ) → ((x : ℕ) → has m x ≡ true → x < v) → count (d + v) m ≡ count v m

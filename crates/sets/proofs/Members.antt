@@ -1,6 +1,6 @@
 -- The operations on sets, member by member, and that a set is determined by its members. Over every width.
 use mathlib.Core.Path.{_≡_, refl, sym, ap, _∙_, subst}
-use mathlib.Core.Logic.{_≢_, _⊎_, inl, inr}
+use mathlib.Core.Logic.{_≢_, _⊎_, inl, inr, ⊎-elim}
 use mathlib.Core.Bool.{Bool, true, false, not, _&&_, _||_, true≢false, false≢true}
 use lib.Pow.{pow-add, pow-lt}
 use Prim.Native.Nat.{ℕ, zero, suc, _-_, _*_, _/_, _%_, _^_, _≤_, _<_, suc-le-suc}
@@ -11,7 +11,7 @@ use lib.Bits.{bitOr, bitAnd, bitXor, and-mask, or-shr, and-shr, xor-shr, or-mod,
 use lib.Count.{trailingZeros}
 use lib.Dec.{eqb, eqb→eq, T}
 use Rattle.sets.specs.Set.{has, only, _union_, _intersect_, _minus_, _without_, Within, Apart}
-use Rattle.sets.proofs.Booleans.{or-left, or-right, or-cases, or-neither, or-swap, clash, not-true, eqb-equal}
+use Rattle.sets.proofs.Booleans.{or-left, or-right, or-cases, or-neither, or-swap, and-cases, clash, not-true, eqb-equal, differ-eqb}
 
 -- ---- a bit
 pub bit : (n : ℕ) → (n % 2 ≡ 0) ⊎ (n % 2 ≡ 1)
@@ -61,6 +61,20 @@ unfolding has
 has-and a b zero = ap (λ (m : ℕ). eqb m 1) (and-mod a b 1) ∙ bits (λ m n. eqb (bitAnd m n) 1 ≡ (eqb m 1 && eqb n 1)) refl refl refl refl a b
 has-and a b (suc x) = ap (λ (m : ℕ). has m x) (and-shr a b 1) ∙ has-and (a / 2) (b / 2) x
 
+-- a member of a union
+pub either : {C : Type 0} (a b x : ℕ) → has (a union b) x ≡ true → (has a x ≡ true → C) → (has b x ≡ true → C) → C
+either a b x h f g = ⊎-elim f g (or-cases (has a x) (has b x) (sym (has-union a b x) ∙ h))
+
+pub in-left : (a b x : ℕ) → has a x ≡ true → has (a union b) x ≡ true
+in-left a b x h = has-union a b x ∙ or-left _ h
+
+pub in-right : (a b x : ℕ) → has b x ≡ true → has (a union b) x ≡ true
+in-right a b x h = has-union a b x ∙ or-right (has a x) h
+
+-- what is not in a union is in neither set
+pub in-neither : (a b x : ℕ) → has (a union b) x ≡ false → (has a x ≡ false) × (has b x ≡ false)
+in-neither a b x h = or-neither (has a x) (has b x) (sym (has-union a b x) ∙ h)
+
 pub has-intersect : (a b x : ℕ) → has (a intersect b) x ≡ (has a x && has b x)
 unfolding _intersect_
 has-intersect a b x = has-and a b x
@@ -78,6 +92,9 @@ differs-and : (a b : Bool) → differs a (a && b) ≡ (a && not b)
 unfolding differs
 differs-and true b = refl
 differs-and false b = refl
+
+pub in-both : (a b x : ℕ) → has (a intersect b) x ≡ true → (has a x ≡ true) × (has b x ≡ true)
+in-both a b x h = and-cases (has a x) (has b x) (sym (has-intersect a b x) ∙ h)
 
 pub has-minus : (a b x : ℕ) → has (a minus b) x ≡ (has a x && not (has b x))
 unfolding _minus_
@@ -178,11 +195,7 @@ union-same a = or-self a
 
 -- a set joined to one that it is within
 pub within-union : (a b : ℕ) → Within a b → a union b ≡ b
-within-union a b f = within-ext (a union b) b (λ x h. go x (or-cases (has a x) (has b x) (sym (has-union a b x) ∙ h))) (λ x h. has-union a b x ∙ or-right (has a x) h)
-  where
-    go : (x : ℕ) → (has a x ≡ true) ⊎ (has b x ≡ true) → has b x ≡ true
-    go x (inl h) = f x h
-    go x (inr h) = h
+within-union a b f = within-ext (a union b) b (λ x h. either a b x h (f x) (λ k. k)) (in-right a b)
 
 pub union-assoc : (a b c : ℕ) → (a union b) union c ≡ a union (b union c)
 union-assoc a b c =
@@ -225,17 +238,16 @@ pub apart-union : (a b c : ℕ) → Apart a b → Apart a c → Apart a (b union
 apart-union a b c f g x h = has-union b c x ∙ rw (f x h, g x h)
 
 pub apart-union⁻ : (a b c : ℕ) → Apart a (b union c) → Apart a b × Apart a c
-apart-union⁻ a b c f = (λ x h. or-neither (has b x) (has c x) (sym (has-union b c x) ∙ f x h) .0, λ x h. or-neither (has b x) (has c x) (sym (has-union b c x) ∙ f x h) .1)
+apart-union⁻ a b c f = (λ x h. in-neither b c x (f x h) .0, λ x h. in-neither b c x (f x h) .1)
 
 pub union-apart⁻ : (a b c : ℕ) → Apart (a union b) c → Apart a c × Apart b c
-union-apart⁻ a b c f = (λ x h. f x (has-union a b x ∙ or-left _ h), λ x h. f x (has-union a b x ∙ or-right (has a x) h))
+union-apart⁻ a b c f = (λ x h. f x (in-left a b x h), λ x h. f x (in-right a b x h))
 
 pub union-within : (a b u v : ℕ) → Within a u → Within b v → Within (a union b) (u union v)
-union-within a b u v f g x h = go (or-cases (has a x) (has b x) (sym (has-union a b x) ∙ h))
-  where
-    go : (has a x ≡ true) ⊎ (has b x ≡ true) → has (u union v) x ≡ true
-    go (inl h) = has-union u v x ∙ or-left _ (f x h)
-    go (inr h) = has-union u v x ∙ or-right (has u x) (g x h)
+union-within a b u v f g x h = either a b x h (λ k. in-left u v x (f x k)) (λ k. in-right u v x (g x k))
+
+pub union-within-both : (a b F : ℕ) → Within a F → Within b F → Within (a union b) F
+union-within-both a b F f g x h = either a b x h (f x) (g x)
 
 -- the test for sets with no element in common
 pub apart-test : (a b : ℕ) → Apart a b → eqb (a intersect b) 0 ≡ true
@@ -261,6 +273,17 @@ some-member = bin-ind (λ (m : ℕ). m ≢ 0 → (x : ℕ) × (has m x ≡ true)
     go : (n : ℕ) → (n / 2 ≢ 0 → (x : ℕ) × (has (n / 2) x ≡ true)) → n ≢ 0 → (n % 2 ≡ 0) ⊎ (n % 2 ≡ 1) → (x : ℕ) × (has n x ≡ true)
     go n ih h (inr e) = (0, ap (λ (z : ℕ). eqb z 1) e)
     go n ih h (inl e) = let (x, k) = ih (λ z. h (omega arith)) in (suc x, k)
+
+-- two sets have a member in common, or are apart
+pub meet : (a b : ℕ) → ((x : ℕ) × (has a x ≡ true) × (has b x ≡ true)) ⊎ Apart a b
+meet a b = go (eqb (a intersect b) 0) refl
+  where
+    go : (z : Bool) → eqb (a intersect b) 0 ≡ z → ((x : ℕ) × (has a x ≡ true) × (has b x ≡ true)) ⊎ Apart a b
+    go true e = inr (test-apart a b e)
+    go false e =
+        let (x, h) = some-member (a intersect b) (differ-eqb (a intersect b) 0 e) in
+        let (u, v) = in-both a b x h in
+        inl (x, u, v)
 
 -- ---- the least member, where a program counts the zeros below it
 module _ (w m : ℕ) (h : m < 2 ^ suc w) (z : m ≢ 0) (e : m % 2 ≡ 0) where

@@ -4,11 +4,11 @@ use mathlib.Core.Bool.{true}
 use Prim.Native.Nat.{ℕ, _≤_, _<_}
 use native.Mathlib.Decide.{ℕ-discrete}
 use Rattle.sets.specs.Set.{has, only, _union_, _intersect_, _without_, Within, count}
-use Rattle.sets.proofs.Booleans.{and-both, and-cases}
-use Rattle.sets.proofs.Members.{has-intersect, has-only, has-only-equal, has-without-other, within-ext, ext, has-empty, union-empty, empty-union, union-swap, union-assoc}
+use Rattle.sets.proofs.Booleans.{and-both}
+use Rattle.sets.proofs.Members.{has-intersect, has-only, has-only-equal, has-without-other, within-ext, ext, has-empty, union-empty, empty-union, union-swap, union-assoc, either, in-left, in-right, in-both}
 use Rattle.sets.proofs.Counts.{count-width, count-without}
 use Rattle.esterel.specs.inner.Conditions.{slotOf, seen}
-use Rattle.esterel.proofs.Conditions.{either, in-left, in-right, other}
+use Rattle.esterel.proofs.Conditions.{other}
 use Rattle.esterel.proofs.Slots.{seen-slot, has-seen, seen-empty, seen-added}
 
 module _ (M F : ℕ) where
@@ -22,7 +22,7 @@ module _ (M F : ℕ) where
       there : Within (seen M (M intersect F)) (seen M F)
       there s h =
           let (S, m, f, e) = seen-slot M (M intersect F) s h in
-          subst (λ (z : ℕ). has (seen M F) z ≡ true) e (has-seen M F S m ∙ and-cases (has M S) (has F S) (sym (has-intersect M F S) ∙ f) .1)
+          subst (λ (z : ℕ). has (seen M F) z ≡ true) e (has-seen M F S m ∙ in-both M F S f .1)
 
       back : Within (seen M F) (seen M (M intersect F))
       back s h =
@@ -31,7 +31,7 @@ module _ (M F : ℕ) where
 
   pub gathered-none : Gathered (M intersect F) 0
   gathered-none = record {
-    of = λ x h. and-cases (has M x) (has F x) (sym (has-intersect M F x) ∙ h) .0;
+    of = λ x h. in-both M F x h .0;
     all = union-empty (seen M (M intersect F)) ∙ seen-known;
   }
 

@@ -209,20 +209,6 @@ module _ (nodes : List ℕ) where
       let e = place-next k (operandOf (getD nodes at 0)) (statementAt left nodes) (at + 1) in omega arith)
       (λ h. b)
 
-pub size-positive : (p : Statement) → 1 ≤ size p
-unfolding size
-size-positive nothing = omega arith
-size-positive (pause l) = omega arith
-size-positive (gotopause l) = omega arith
-size-positive (emit S) = omega arith
-size-positive (exit d) = omega arith
-size-positive (signal S p) = omega arith
-size-positive (present S p q) = omega arith
-size-positive (sequence p q) = omega arith
-size-positive (parallel p q) = omega arith
-size-positive (loop p) = omega arith
-size-positive (try p) = omega arith
-
 -- by a depth of at least 1
 node-there : (xs : List ℕ) (left at : ℕ) → at < length xs
     → statementAt (suc left) xs at ≡ placeKind (kindOf (kindOfNode (getD xs at 0))) (operandOf (getD xs at 0)) (statementAt left xs) (at + 1)

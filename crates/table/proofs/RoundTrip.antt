@@ -11,13 +11,13 @@ use Rattle.sets.specs.Set.{_union_}
 use Rattle.sets.proofs.Booleans.{clash}
 use Rattle.sets.proofs.Members.{has-empty}
 use Rattle.esterel.specs.Statement.{Statement, nothing, pause, gotopause, emit, exit, signal, present, sequence, parallel, loop, try, pauses, size, depth, Valid}
+use Rattle.esterel.proofs.Sizes.{size-positive}
 use Rattle.table.specs.Bits.{bits, Below}
 use Rattle.table.specs.Reading.{Reading, readFrom, lengthOf, headerOf, deepest, Table, holds, wholeOf, tableAfter, tableOf}
 use Rattle.table.specs.Writing.{node, nodes, Allowed, nodeBits, writeNodes, write}
 use Rattle.table.proofs.Bits.{below-cons, below-append, below-bytesOf}
 use Rattle.table.proofs.Fields.{length-writeNodes, below-fields, headed-written, crowded-written, nodes-written, headed-accepted, nodes-again}
 use Rattle.table.proofs.Nodes.{length-nodes}
-use Rattle.table.proofs.Places.{size-positive}
 use Rattle.table.proofs.Accepted.{read-faithful, accepted}
 use Rattle.table.proofs.ReadBack.{Ranged, Reread, back, refused, read-back}
 

@@ -13,11 +13,11 @@ use borrow.Author.Tests.{ltb-false, le-ltb}
 use Rattle.sets.specs.Set.{has}
 use Rattle.sets.proofs.Booleans.{by-cond, clash}
 use Rattle.esterel.specs.Statement.{Statement, nothing, pause, gotopause, emit, exit, signal, present, sequence, parallel, loop, try, size}
+use Rattle.esterel.proofs.Sizes.{size-positive}
 use Rattle.table.specs.Kinds.{kinds, kindOf, rowOf}
 use Rattle.table.specs.Reading.{Reading, read, withOne, withTwo, readKind, readIf, readNode, readFrom, faultOf, Table, wholeOf, tableAfter, tableOf, deepest}
 use Rattle.table.specs.Writing.{node, nodes, writeNodes, write}
 use Rattle.table.proofs.Nodes.{kind-node, operand-node, length-nodes}
-use Rattle.table.proofs.Places.{size-positive}
 use Rattle.table.proofs.Faults.{fault-none}
 use Rattle.table.proofs.Accepted.{read-kind}
 use Rattle.table.proofs.Fields.{headed-accepted, headed-written, nodes-written}

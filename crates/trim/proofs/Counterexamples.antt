@@ -14,7 +14,7 @@ use Rattle.table.specs.Bits.{bits, numberAfter, number, bitsOf, bytesFrom, padd
 use Rattle.table.specs.Outcomes.{refusal, values, bufferAfter}
 use Rattle.table.specs.Reading.{lengthOf, editionOf, countOf, paddingOf, headerOf, nodesFrom, nodesOf, faultOf, readKind, readNode, readFrom, wholeOf, tableAfter, tableOf}
 use Rattle.table.specs.Writing.{nodes, nodeBits, writeNodes, write}
-use Rattle.trim.specs.Answers.{trimFor, trimIn, bufferIn, trimOf, bufferOf}
+use Rattle.trim.specs.Answers.{valuesFor, trimFor, trimIn, bufferIn, trimOf, bufferOf}
 
 -- ---- case G, as bytes: no copy, no refusal, not nothing; the inner try stays with its exit, and what follows the exit goes
 
@@ -24,11 +24,12 @@ tableG = 16 ∷ 7 ∷ 160 ∷ 40 ∷ 8 ∷ 1 ∷ 192 ∷ 64 ∷ 76 ∷ 20 ∷ 8 
 unfoldable pub tableG′ : List ℕ
 tableG′ = 16 ∷ 5 ∷ 160 ∷ 40 ∷ 8 ∷ 1 ∷ 1 ∷ 64 ∷ 128 ∷ []
 
-pub trim-G : trimOf tableG 11 ≡ values (5 ∷ 9 ∷ [])
-unfolding tableG trimOf trimIn trimFor has only _union_ _intersect_ pauses pauseCount size depth codeOf labels none justEnded justAt justCode join
-    minusZero throughTry hasLow notBelow noLowerThan maximum s d nextR reachFrom reach isNothing joinParts names endsAt shiftLevel shiftExits canEnd
-    trimLoop trimSignal trimPresent trimTry trim trimmed kinds kindOf rowOf bits numberAfter number bitsOf bytesFrom padded bytesOf lengthOf editionOf
-    countOf paddingOf headerOf nodesFrom nodesOf faultOf readKind readNode readFrom wholeOf tableAfter tableOf nodes nodeBits writeNodes write
+pub trim-G : trimOf tableG 11 ≡ values (5 ∷ 9 ∷ 714 ∷ 2 ∷ [])
+unfolding tableG trimOf trimIn trimFor valuesFor has only _union_ _intersect_ pauses pauseCount size depth codeOf labels none justEnded justAt
+    justCode join minusZero throughTry hasLow notBelow noLowerThan maximum s d nextR reachFrom reach isNothing joinParts names endsAt shiftLevel
+    shiftExits canEnd trimLoop trimSignal trimPresent trimTry trim trimmed kinds kindOf rowOf bits numberAfter number bitsOf bytesFrom padded bytesOf
+    lengthOf editionOf countOf paddingOf headerOf nodesFrom nodesOf faultOf readKind readNode readFrom wholeOf tableAfter tableOf nodes nodeBits
+    writeNodes write
 trim-G = refl
 
 pub buffer-G : bufferOf tableG (replicate 11 7) ≡ tableG′ ++ (7 ∷ 7 ∷ [])

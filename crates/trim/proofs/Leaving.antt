@@ -69,7 +69,7 @@ module _ (d : ℕ) where
   ends-present z p q =
       by-present (λ t. endsAt d t ≡ (endsAt d p || endsAt d q)) z p q (λ e. rw e (sym (or-false (endsAt d p))))
       (λ e. ends-join sequence (λ x y. refl) p q)
-      (ap₂ (λ (x y : Bool). endsAt d p || (x || y)) (ne-eqb 1 (suc (suc d)) (λ e. omega arith)) (ends-raise 0 d q (omega arith)))
+      (λ e i. ap₂ (λ (x y : Bool). endsAt d p || (x || y)) (ne-eqb 1 (suc (suc d)) (λ e. omega arith)) (ends-raise 0 d q (omega arith)))
 
   module _ (R : ℕ) (b : Bool) where
     pub ends-signal : (S : ℕ) (p : Statement) → endsAt d (trim R b (signal S p)) ≡ endsAt d (trim R b p)

@@ -1,5 +1,4 @@
 pub mod Levels
-pub mod Dropped
 pub mod Live
 pub mod Trimming
 pub mod Parts
@@ -12,4 +11,5 @@ pub mod Marking
 pub mod Refused
 pub mod Root
 pub mod Answers
+pub mod Shares
 pub mod Counterexamples

@@ -1,16 +1,15 @@
 -- Which statements are live; and of one that is not, nothing is left where it is only resumed.
-use mathlib.Core.Path.{_≡_, refl, sym, ap, ap₂, _∙_, subst}
-use mathlib.Core.Bool.{Bool, true, false, cond, not, _||_}
+use mathlib.Core.Path.{_≡_, refl, sym, ap, _∙_, subst}
+use mathlib.Core.Bool.{Bool, true, false, not, _||_}
 use Prim.Native.Nat.{ℕ}
 use lib.Dec.{eqb}
 use Rattle.sets.specs.Set.{has, only, _union_, _intersect_, Apart}
-use Rattle.sets.proofs.Booleans.{clash, or-neither}
+use Rattle.sets.proofs.Booleans.{clash}
 use Rattle.sets.proofs.Members.{has-only, has-only-equal, has-empty, apart-sym, apart-union, union-apart⁻, apart-test, test-apart}
-use Rattle.esterel.specs.Statement.{Statement, nothing, pause, gotopause, emit, exit, signal, present, sequence, parallel, loop, try, pauses}
-use Rattle.esterel.specs.Codes.{Codes, none}
-use Rattle.esterel.specs.Trimming.{isNothing, joinParts, names, endsAt, shiftExits, canEnd, trimLoop, trimSignal, trimPresent, trimTry, trim}
+use Rattle.esterel.specs.Statement.{Statement, nothing, pause, pauses}
+use Rattle.esterel.specs.Trimming.{trim}
+use Rattle.esterel.proofs.Idle.{idle}
 use Rattle.trim.specs.inner.Notes.{live}
-use Rattle.trim.proofs.Dropped.{nothing-none}
 
 never-false : (z : Bool) → (z ≡ false → ⊥) → z ≡ true
 never-false true f = refl
@@ -62,25 +61,5 @@ module _ (R : ℕ) where
   live-two t p q e = ap (λ (m : ℕ). meets m R) e ∙ union-meets (pauses p) (pauses q) R
 
   pub dead-nothing : (p : Statement) → live R p ≡ false → trim R false p ≡ nothing
-  unfolding live pauses trim trimLoop trimSignal trimPresent trimTry joinParts isNothing names endsAt shiftExits canEnd none
-  dead-nothing nothing h = refl
-  dead-nothing (pause l) h = ap (λ (z : Bool). cond z (pause l) nothing) (sym (only-meets l R) ∙ h)
-  dead-nothing (gotopause l) h = refl
-  dead-nothing (emit S) h = refl
-  dead-nothing (exit e) h = refl
-  dead-nothing (signal S p) h = ap (trimSignal S) (dead-nothing p h)
-  dead-nothing (present S p q) h =
-      let n = or-neither (live R p) (live R q) (sym (union-meets (pauses p) (pauses q) R) ∙ h) in
-      ap₂ (trimPresent (canEnd R false p)) (dead-nothing p (n .0)) (dead-nothing q (n .1))
-  dead-nothing (sequence p q) h =
-      let n = or-neither (live R p) (live R q) (sym (union-meets (pauses p) (pauses q) R) ∙ h) in
-      let e : trim R false p ≡ nothing = dead-nothing p (n .0) in
-      let c : canEnd R false p ≡ false = ap (λ (K : Codes). K .ends) (nothing-none R p (ap isNothing e)) in
-      ap₂ (joinParts sequence) e (ap (λ (b : Bool). trim R b q) c ∙ dead-nothing q (n .1))
-  dead-nothing (parallel p q) h =
-      let n = or-neither (live R p) (live R q) (sym (union-meets (pauses p) (pauses q) R) ∙ h) in
-      ap₂ (joinParts parallel) (dead-nothing p (n .0)) (dead-nothing q (n .1))
-  dead-nothing (loop p) h =
-      let e : trim R false p ≡ nothing = dead-nothing p h in
-      ap (λ (z : Bool). trimLoop z false (λ c. trim R c p)) (ap (λ (K : Codes). K .ends) (nothing-none R p (ap isNothing e))) ∙ e
-  dead-nothing (try p) h = ap trimTry (dead-nothing p h)
+  unfolding live
+  dead-nothing p h = idle R p (apart-sym (pauses p) R (meets-apart (pauses p) R h)) .0

@@ -18,14 +18,13 @@ use Rattle.sets.proofs.Booleans.{or-false, by-cond, eqb-same, eqb-differ}
 use Rattle.sets.proofs.Members.{has-union, has-empty, has-only, has-only-other, only-fits}
 use Rattle.esterel.specs.Statement.{Statement, nothing, pause, gotopause, emit, exit, signal, present, sequence, parallel, loop, try, depth}
 use Rattle.esterel.specs.Trimming.{isNothing, names, joinParts}
-use Rattle.esterel.proofs.Trimming.{is-nothing}
+use Rattle.esterel.proofs.Trimming.{is-nothing, join-first, join-both}
 use Rattle.table.specs.Kinds.{kinds, kindOf, rowOf}
 use Rattle.table.specs.Writing.{nodes, node}
 use Rattle.table.proofs.Nodes.{depth-positive}
 use Rattle.trim.specs.declared.work.Part.{Part}
 use Rattle.trim.specs.inner.Levels.{wrapIf, guardedIf}
 use Rattle.trim.specs.inner.Parts.{part, partDepth, Puts, NodesStand, PartStands, WholeStands, heldWith, nothingAt, Fitting, Joins, LeafPut, NothingFilled, Wrapped, PartsJoined, ElseClosed, PresentClosed}
-use Rattle.trim.proofs.Dropped.{join-first, join-both}
 
 -- ---- lists written from their end
 

@@ -1,6 +1,6 @@
 -- The whole statement: what marking leaves is what trimming asks, no exit leaves the root, and the answer goes by
 -- the nodes that stand at the end of the work area.
-use mathlib.Core.Path.{_≡_, sym, ap, ap₂, _∙_, subst}
+use mathlib.Core.Path.{_≡_, refl, sym, ap, ap₂, _∙_, subst}
 use mathlib.Core.Bool.{Bool, true, false, cond, _||_}
 use mathlib.Core.List.{List, [], _∷_, _++_, append-nil}
 use Prim.Native.Nat.{ℕ, _+_, _-_, _≤_, _<_, zero-le}
@@ -12,8 +12,11 @@ use lib.Seq.{drop-at, drop-drop, drop-length, length-take-le, take-all}
 use Rattle.sets.specs.Set.{has}
 use Rattle.sets.proofs.Booleans.{or-left, or-right, eqb-differ}
 use Rattle.esterel.specs.Statement.{Statement, size, depth, Valid}
+use Rattle.esterel.specs.declared.Share.{Share}
 use Rattle.esterel.specs.Trimming.{isNothing, trimmed}
-use Rattle.esterel.proofs.Validity.{valid-trimmed, size-trimmed}
+use Rattle.esterel.specs.Shares.{thousandths, remainder}
+use Rattle.esterel.proofs.Validity.{valid-trimmed}
+use Rattle.esterel.proofs.Growth.{size-trimmed}
 use Rattle.table.specs.Outcomes.{refusal, values, bufferAfter}
 use Rattle.table.specs.Reading.{lengthOf, deepest}
 use Rattle.table.specs.inner.Places.{statementAt, statementOf, Loaded}
@@ -34,7 +37,7 @@ use Rattle.trim.specs.inner.Levels.{levelOut, trimmedIn}
 use Rattle.trim.specs.inner.Notes.{Noted}
 use Rattle.trim.specs.inner.Marking.{Markable, Marks}
 use Rattle.trim.specs.inner.Parts.{part, PartStands, NothingFilled, reachSetOf, Trimmable, Done}
-use Rattle.trim.specs.Answers.{trimmedOutcome, trimFor}
+use Rattle.trim.specs.Answers.{trimmedOutcome, valuesFor, trimFor}
 use Rattle.trim.specs.inner.Root.{Lent, Ends, EndFits, Finished}
 use Rattle.trim.proofs.Levels.{map-closed}
 use Rattle.trim.proofs.Refused.{no-name}
@@ -118,7 +121,7 @@ module _ {xs notes places work : List ℕ} {found : Settled} (A : AtRest xs note
     pub root-room : (1 ≤ p .from) × (p .from ≤ 4096)
     root-room =
         let e = made .puts .from-is in
-        let s = size-trimmed (statementOf xs) in
+        let s = size-trimmed (statementOf xs) (A .loaded .valid) in
         let f = A .loaded .few in
         (omega (arith, part-size result), omega arith)
 
@@ -140,7 +143,7 @@ module _ {xs notes places work : List ℕ} {found : Settled} (A : AtRest xs note
 
 -- ---- the end of trimming
 
-module _ (p : Part) (work out : List ℕ) where
+module _ (n : ℕ) (p : Part) (work out : List ℕ) where
   module _ (t : Statement) (E : Ends t p work) where
     counted : size t ≡ 4096 - p .from
     counted = let e = E .count in omega arith
@@ -149,15 +152,16 @@ module _ (p : Part) (work out : List ℕ) where
     unfolding write
     long = length-writeNodes (nodes t) ∙ ap lengthOf (length-nodes t ∙ counted)
 
-    refused-12 : (ltb 1024 (size t) || ltb deepest (depth t)) ≡ true → (refusal 12 ≡ trimFor t (length out)) × (out ≡ bufferAfter (trimFor t (length out)) (write t) out)
+    refused-12 : (ltb 1024 (size t) || ltb deepest (depth t)) ≡ true
+        → (refusal 12 ≡ trimFor n t (length out)) × (out ≡ bufferAfter (trimFor n t (length out)) (write t) out)
     unfolding trimFor bufferAfter
     refused-12 h = (rw h, rw h)
 
-  pub finish-many : 1024 < 4096 - p .from → Finished work p out (Refused 12) out
+  pub finish-many : 1024 < 4096 - p .from → Finished n work p out (Refused 12) out
   unfolding Finished trimmedOutcome
   finish-many h t E = refused-12 t E (or-left (ltb deepest (depth t)) (lt-ltb 1024 (size t) (omega (arith, counted t E))))
 
-  pub finish-deep : 60 < p .depth → Finished work p out (Refused 12) out
+  pub finish-deep : 60 < p .depth → Finished n work p out (Refused 12) out
   unfolding Finished trimmedOutcome
   finish-deep h t E = refused-12 t E (or-right (ltb 1024 (size t)) (lt-ltb deepest (depth t) (omega (arith, E .deep))))
 
@@ -165,7 +169,7 @@ module _ (p : Part) (work out : List ℕ) where
     allowed : (t : Statement) → Ends t p work → (ltb 1024 (size t) || ltb deepest (depth t)) ≡ false
     allowed t E = rw (le-ltb 1024 (size t) (omega (arith, counted t E)), le-ltb deepest (depth t) (omega (arith, E .deep)))
 
-    pub finish-short : (b : ℕ) → b ≡ lengthOf (4096 - p .from) → length out < b → Finished work p out (Refused 13) out
+    pub finish-short : (b : ℕ) → b ≡ lengthOf (4096 - p .from) → length out < b → Finished n work p out (Refused 13) out
     unfolding Finished trimmedOutcome trimFor bufferAfter
     finish-short b e h t E =
         let l : ltb (length out) (length (write t)) ≡ true = lt-ltb (length out) (length (write t)) (omega (arith, long t E)) in
@@ -189,14 +193,19 @@ module _ (p : Part) (work out : List ℕ) where
           let count : length (drop first work) ≡ 4096 - p .from = length-drop first work ∙ (omega (arith, F .long, F .within)) in
           rw slice-is (record { few = omega arith; fields = F .fields held; fits = rw count (omega arith) })
 
-      pub finish-written : (n : ℕ) (out′ : List ℕ) → (n ≡ length (writeNodes slice)) × (out′ ≡ writeNodes slice ++ drop n out)
-          → Finished work p out (Accepted (record { nodes = 4096 - p .from; bytes = b })) out′
-      unfolding Finished trimmedOutcome trimFor bufferAfter write
-      finish-written n out′ w t E =
-          let l : ltb (length out) (length (write t)) ≡ false = le-ltb (length out) (length (write t)) (omega (arith, long t E)) in
-          let is : slice ≡ nodes t = slice-is ∙ E .stands held in
-          let bytes : b ≡ length (write t) = e ∙ sym (long t E) in
-          let put = subst (λ (m : List ℕ). (n ≡ length (writeNodes m)) × (out′ ≡ writeNodes m ++ drop n out)) is w in (
-            rw (allowed t E, l) (ap₂ (λ (i j : ℕ). values (i ∷ j ∷ [])) (sym (counted t E)) bytes),
-            rw (allowed t E, l) (put .1 ∙ ap (λ (k : ℕ). writeNodes (nodes t) ++ drop k out) (put .0)),
-          )
+      module _ (share : Share) (k : (share .thousandths ≡ thousandths n (4096 - p .from)) × (share .remainder ≡ remainder n (4096 - p .from))) where
+        -- the values of the answer are those of the statement
+        values-are : (t : Statement) → Ends t p work → (4096 - p .from) ∷ b ∷ share .thousandths ∷ share .remainder ∷ [] ≡ valuesFor n t
+        unfolding valuesFor
+        values-are t E = rw (k .0, k .1, counted t E, e, long t E) refl
+
+        pub finish-written : (m : ℕ) (out′ : List ℕ) → (m ≡ length (writeNodes slice)) × (out′ ≡ writeNodes slice ++ drop m out)
+            → Finished n work p out (Accepted (record { nodes = 4096 - p .from; bytes = b; share = share })) out′
+        unfolding Finished trimmedOutcome trimFor bufferAfter write
+        finish-written m out′ w t E =
+            let l : ltb (length out) (length (write t)) ≡ false = le-ltb (length out) (length (write t)) (omega (arith, e, long t E)) in
+            let is : slice ≡ nodes t = slice-is ∙ E .stands held in
+            let put = subst (λ (xs : List ℕ). (m ≡ length (writeNodes xs)) × (out′ ≡ writeNodes xs ++ drop m out)) is w in (
+              rw (allowed t E, l) (ap values (values-are t E)),
+              rw (allowed t E, l) (put .1 ∙ ap (λ (i : ℕ). writeNodes (nodes t) ++ drop i out) (put .0)),
+            )

@@ -10,10 +10,11 @@ use lib.Seq.{getD-set-same, getD-set-other}
 use Rattle.sets.specs.Set.{has}
 use Rattle.esterel.specs.Statement.{Statement, nothing, pause, gotopause, emit, exit, signal, present, sequence, parallel, loop, try}
 use Rattle.esterel.specs.Trimming.{isNothing, joinParts, names, endsAt, canEnd, trimLoop, trimSignal, trimPresent, trimTry, trim, shiftExits}
+use Rattle.esterel.proofs.Idle.{ending-something}
+use Rattle.esterel.proofs.Trimming.{join-first, join-both}
 use Rattle.trim.specs.declared.descent.Around.{Around}
 use Rattle.trim.specs.inner.Levels.{mapExits, levelOut, trimmedIn, startedIf, inGuard, inElse, inTry, placesIn, wrapIf, guardedIf}
 use Rattle.trim.proofs.Levels.{map-nothing, map-names, map-same, map-raise, map-within, map-lower, within, level-in, level-leaves}
-use Rattle.trim.proofs.Dropped.{join-first, join-both, ending-something}
 
 -- places are known up to the tries around
 abbrev pub LowPlaces : List ℕ → Around → Type 0

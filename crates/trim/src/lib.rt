@@ -11,11 +11,13 @@ mod noted;
 mod work;
 
 use descent::Around;
+use esterel::Share;
 use reach::Analysed;
 use table::Checked;
 use work::Laid;
 use work::Part;
 ghost use mathlib.Core.Path.{_≡_};
+ghost use Prim.Native.Nat.{_≤_};
 ghost use lib.ListN.{length};
 ghost use Rattle.esterel.specs.Trimming.{trimmed};
 ghost use Rattle.table.specs.Outcomes.{numberOf};
@@ -28,10 +30,11 @@ const TOO_LARGE: u8 = 12;
 
 const TOO_SHORT: u8 = 13;
 
-// A trimmed table: its nodes, and its length in bytes.
+// A trimmed table: its nodes, its length in bytes, and the share of the source that it keeps.
 pub struct Written {
     pub nodes: u16,
     pub bytes: usize,
+    pub share: Share,
 }
 
 // Trim's answer: the number of the refusal, or what the buffer begins with.
@@ -82,10 +85,10 @@ fn trim_nodes(
     Laid::At(work::fill(work, part, to))
 }
 
-// The answer for the statement at the end of the work area, whose table is written where it fits.
-fn finish(work: &[u16], part: Part, out: &mut [u8]) -> Trimmed
-    requires { ⌜ EndFits part (now work) ⌝ }
-    ensures { λ r. ⌜ Finished (now (work .entry)) part (now (out .entry)) r (now (out .exit)) ⌝ }
+// The answer for the statement at the end of the work area, whose table is written where it fits; the source has `before` nodes.
+fn finish(before: u16, work: &[u16], part: Part, out: &mut [u8]) -> Trimmed
+    requires { ⌜ (1 ≤ before) × EndFits part (now work) ⌝ }
+    ensures { λ r. ⌜ Finished before (now (work .entry)) part (now (out .entry)) r (now (out .exit)) ⌝ }
 {
     let from = part.from;
     let count = work::END - from;
@@ -102,7 +105,12 @@ fn finish(work: &[u16], part: Part, out: &mut [u8]) -> Trimmed
     let nodes = count as u16;
     let first = from - work::HELD;
     table::write_nodes(&work[first..], out);
-    Trimmed::Accepted(Written { nodes, bytes })
+    let share = esterel::share_of(before, nodes);
+    Trimmed::Accepted(Written {
+        nodes,
+        bytes,
+        share,
+    })
 }
 
 // Trim, with room lent for the nodes, what is noted of them, the places of try statements and the trimmed nodes.
@@ -118,14 +126,14 @@ fn trim_with(
     ensures { λ r. ⌜ (trimmedOutcome r ≡ trimOf (now (table .entry)) (length (now (out .entry)))) × (now (out .exit) ≡ bufferOf (now (table .entry)) (now (out .entry))) ⌝ }
 {
     let checked = table::load(table, nodes);
-    let Checked::Accepted(_) = checked else {
+    let Checked::Accepted(before) = checked else {
         return Trimmed::Refused(table::refusal(checked));
     };
     let laid = trim_nodes(nodes, notes, places, work);
     let Laid::At(part) = laid else {
         return Trimmed::Refused(table::NO_KIND);
     };
-    finish(work, part, out)
+    finish(before, work, part, out)
 }
 
 // Trims a table into the buffer.

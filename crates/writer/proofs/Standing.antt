@@ -7,11 +7,12 @@ use mathlib.Core.List.{List, _∷_, _++_, append-assoc}
 use native.Mathlib.Omega.{arith}
 use lib.ListN.{length, drop, getD, length-append, length-drop}
 use Rattle.esterel.specs.Statement.{Statement, nothing, pause, gotopause, emit, exit, signal, present, sequence, parallel, loop, try, size, depth, Valid}
+use Rattle.esterel.proofs.Sizes.{size-positive}
 use Rattle.table.specs.Reading.{kindOfNode, operandOf}
 use Rattle.table.specs.Writing.{node, nodes}
 use Rattle.table.specs.inner.Places.{Placed, placed, statementAt}
 use Rattle.table.proofs.Nodes.{kind-node, operand-node, length-nodes, depth-positive}
-use Rattle.table.proofs.Places.{valid-narrow, from-place, past-nodes, placed-nodes, size-positive}
+use Rattle.table.proofs.Places.{valid-narrow, from-place, past-nodes, placed-nodes}
 use Rattle.text.specs.Parts.{End, word}
 use Rattle.text.specs.Grammar.{Level}
 use Rattle.writer.specs.inner.Texts.{enclosedAt, firstLevel, secondLevel, hasTwo, after, leafText, headText, betweenText, tailText, aroundOne, aroundTwo, textAt}

@@ -31,7 +31,7 @@ returns c =
     let k = c .before .before .before .before .before in
     let a = k .before .before .before .before .args in
     let e : trimOf (a .table .now) (length (a .out .now)) ≡ _ = sym (k .trim .ensures .0) ∙ ap trimmedOutcome (c .before .enum-told .given .1) in
-    (c .refusal .ensures ∙ ap numberOf (k .trim .ensures .0), (k .trim .ensures .1, (rw e, rw e)))
+    (c .refusal .ensures ∙ ap numberOf (k .trim .ensures .0), (k .trim .ensures .1, (rw e, (rw e, (rw e, rw e)))))
 
 cast-nodes : tie.Need-cast-nodes
 cast-nodes c = search needs
@@ -45,7 +45,7 @@ returns-2 c =
     let k = c .before .before .before .before .before .before in
     let a = k .before .before .before .before .args in
     let e : trimOf (a .table .now) (length (a .out .now)) ≡ _ = sym (k .trim .ensures .0) ∙ ap trimmedOutcome (c .before .before .answer .given .1) in
-    (rw e, (k .trim .ensures .1, (rw e, rw e)))
+    (rw e, (k .trim .ensures .1, (rw e, (rw e, (rw e, rw e)))))
 
 pub deskheron-trim-spec : {M : Type 1} → statement M
 deskheron-trim-spec =

@@ -10,6 +10,9 @@ use Rattle.trim.proofs.finish.Tie as tie
 
 -- what the function was given
 module _ (c : tie.Start) where
+  abbrev before : ℕ
+  before = c .args .before
+
   abbrev part : Part
   part = c .args .part
 
@@ -31,13 +34,13 @@ sub-count : tie.Need-sub-count
 sub-count c = search needs
 
 returns : tie.Need-returns
-returns c = let s = c .before .before .before in finish-many (part s) (work s) (out s) (c .if1 .taken)
+returns c = let s = c .before .before .before in finish-many (before s) (part s) (work s) (out s) (c .if1 .taken)
 
 cast-if2 : tie.Need-cast-if2
 cast-if2 c = search needs
 
 returns-2 : tie.Need-returns-2
-returns-2 c = let s = c .before .before .before .before .before in finish-deep (part s) (work s) (out s) (c .if2 .taken)
+returns-2 c = let s = c .before .before .before .before .before in finish-deep (before s) (part s) (work s) (out s) (c .if2 .taken)
 
 length-of-requires : tie.Need-length-of-requires
 length-of-requires c κs = search needs
@@ -47,7 +50,7 @@ returns-3 c =
     let l = c .before in
     let e = l .before in
     let s = begun e in
-    finish-short (part s) (work s) (out s) (few e .if1 .left) (e .if2 .left) (l .length-of .result) (l .length-of .ensures) (c .if3 .taken)
+    finish-short (before s) (part s) (work s) (out s) (few e .if1 .left) (e .if2 .left) (l .length-of .result) (l .length-of .ensures) (c .if3 .taken)
 
 cast-nodes : tie.Need-cast-nodes
 cast-nodes c = search needs
@@ -73,20 +76,23 @@ write-nodes-requires c κs =
     let l = r .before in
     let e = l .before in
     let s = begun e in
-    finish-writable (part s) (work s) (out s) (few e .if1 .left) (e .if2 .left) (l .length-of .result) (l .length-of .ensures) (r .if3 .left) (s .pre)
+    finish-writable (before s) (part s) (work s) (out s) (few e .if1 .left) (e .if2 .left) (l .length-of .result) (l .length-of .ensures) (r .if3 .left) (s .pre .1)
+
+share-of-requires : tie.Need-share-of-requires
+share-of-requires c κs = search needs
 
 same-length : tie.Need-same-length
 same-length c = search needs
 
 returns-4 : tie.Need-returns-4
 returns-4 c =
-    let w = c .before .before in
+    let w = c .before .before .before in
     let r = w .before .before .before in
     let l = r .before in
     let e = l .before in
     let s = begun e in
-    finish-written (part s) (work s) (out s) (few e .if1 .left) (e .if2 .left) (l .length-of .result) (l .length-of .ensures) (r .if3 .left)
-    (w .write-nodes .result) (w .write-nodes .last .1 .0) (w .write-nodes .ensures)
+    finish-written (before s) (part s) (work s) (out s) (few e .if1 .left) (e .if2 .left) (l .length-of .result) (l .length-of .ensures) (r .if3 .left)
+    (c .share-of .result) (c .share-of .ensures) (w .write-nodes .result) (w .write-nodes .last .1 .0) (w .write-nodes .ensures)
 
 pub finish-spec : {M : Type 1} → statement M
 finish-spec =
@@ -105,5 +111,6 @@ finish-spec =
     part-write-nodes-start
     part-write-nodes-end
     write-nodes-requires
+    share-of-requires
     same-length
     returns-4)

@@ -6,7 +6,7 @@ use Prim.Native.Nat.{ℕ}
 use borrow.Author.Needs.{needs}
 use Rattle.table.specs.declared.Checked.{Checked}
 use Rattle.table.proofs.Loading.{load-loaded}
-use Rattle.trim.proofs.Answers.{trim-refused, never-laid, laid-ends, end-fields, trim-done}
+use Rattle.trim.proofs.Answers.{trim-refused, never-laid, laid-ends, some-node, end-fields, trim-done}
 use Rattle.trim.proofs.trim_with.Statement.{statement}
 use Rattle.trim.proofs.trim_with.Tie as tie
 
@@ -28,24 +28,24 @@ module _ (c : tie.After-load) where
   checked = c .load .result
 
 -- and where check accepts
-module _ (c : tie.After-enum-told) where
+module _ (c : tie.After-known-told) where
   abbrev loaded : tie.After-load
-  loaded = c .before .before
+  loaded = c .before .before .before
 
   abbrev count : ℕ
-  count = c .enum-told .given .0 .0
+  count = c .before .checked .given .0 .0
 
   accepts : checked loaded ≡ Checked.Accepted count
-  accepts = c .enum-told .given .1
+  accepts = c .before .checked .given .1
 
 load-requires : tie.Need-load-requires
 load-requires c κs = search needs
 
+enum-known-checked : tie.Need-enum-known-checked
+enum-known-checked c = search needs
+
 enum-told : tie.Need-enum-told
 enum-told c = search needs
-
-enum-told-2 : tie.Need-enum-told-2
-enum-told-2 c = search needs
 
 refusal-requires : tie.Need-refusal-requires
 refusal-requires c κs = search needs
@@ -53,7 +53,7 @@ refusal-requires c κs = search needs
 returns : tie.Need-returns
 returns c =
     let l = c .before .before .before in
-    let told = c .before .enum-told2 .given in
+    let told = c .before .enum-told .given in
     trim-refused (table l) (old l) _ (checked l) (l .load .ensures) (out l) (told .0 .0) (c .refusal .result) (told .1) (c .refusal .ensures)
 
 trim-nodes-requires : tie.Need-trim-nodes-requires
@@ -66,18 +66,18 @@ trim-nodes-requires c κs =
 enum-known-laid : tie.Need-enum-known-laid
 enum-known-laid c = search needs
 
-enum-told-3 : tie.Need-enum-told-3
-enum-told-3 c = search needs
+enum-told-2 : tie.Need-enum-told-2
+enum-told-2 c = search needs
 
 returns-2 : tie.Need-returns-2
-returns-2 c = let n = c .before .before in absurd (never-laid (n .trim-nodes .ensures) (c .enum-told3 .given .1))
+returns-2 c = let n = c .before .before in absurd (never-laid (n .trim-nodes .ensures) (c .enum-told2 .given .1))
 
 -- where the statement is laid out
-module _ (c : tie.After-known-told) where
+module _ (c : tie.After-known-told2) where
   abbrev trimmed : tie.After-trim-nodes
   trimmed = c .before .before .before
 
-  abbrev accepted : tie.After-enum-told
+  abbrev accepted : tie.After-known-told
   accepted = trimmed .before .before .before .before .before
 
 finish-requires : tie.Need-finish-requires
@@ -86,9 +86,11 @@ finish-requires c κs =
     let n = trimmed k in
     let e = accepted k in
     let l = loaded e in
-    let (all, known, lent) = begun l .pre in
-    end-fields (table l) (old l) _ (checked l) (l .load .ensures) (out l) (count e) (accepts e) _ _ (laid-ends (n .trim-nodes .ensures) (k .before .laid .given .1))
-    all known (c .before .finish-arg2 .given .0)
+    let (all, known, lent) = begun l .pre in (
+      some-node (table l) (old l) _ (checked l) (l .load .ensures) (out l) (count e) (accepts e),
+      end-fields (table l) (old l) _ (checked l) (l .load .ensures) (out l) (count e) (accepts e) _ _ (laid-ends (n .trim-nodes .ensures) (k .before .laid .given .1))
+          all known (c .before .finish-arg2 .given .0),
+    )
 
 same-length : tie.Need-same-length
 same-length c = search needs
@@ -101,20 +103,20 @@ returns-3 c =
     let e = accepted k in
     let l = loaded e in
     trim-done (table l) (old l) _ (checked l) (l .load .ensures) (out l) (count e) (accepts e) _ _ (laid-ends (n .trim-nodes .ensures) (k .before .laid .given .1))
-    (f .finish .result) (f .finish .last .1 .1 .0) (f .finish .ensures)
+    (f .finish .result) (f .finish .last .1 .1 .1 .0) (f .finish .ensures)
 
 pub trim-with-spec : {M : Type 1} → statement M
 trim-with-spec =
     tie.close
     (tie.spec
     load-requires
+    enum-known-checked
     enum-told
-    enum-told-2
     refusal-requires
     returns
     trim-nodes-requires
     enum-known-laid
-    enum-told-3
+    enum-told-2
     returns-2
     finish-requires
     same-length

@@ -1,5 +1,5 @@
 -- Trimming a whole statement: where the trimmed statement stands, and how the operation ends.
-use Prim.Native.Nat.{ℕ, _+_, _-_, _≤_}
+use Prim.Native.Nat.{ℕ, _+_, _-_, _≤_, _<_}
 use mathlib.Core.Path.{_≡_}
 use mathlib.Core.Logic.{_≢_}
 use mathlib.Core.List.{List}
@@ -33,14 +33,14 @@ pub record LaidOut (q : Statement) (laid : Laid) (work : List ℕ) : Type 0 wher
   pub at : laid ≡ At part
   pub ends : Ends q part work
 
--- nodes at the end of the work area that fit their fields
+-- nodes at the end of the work area, one at least, that fit their fields
 pub record EndFits (part : Part) (work : List ℕ) : Type 0 where
-  pub within : part .from ≤ 4096
-  pub some : part .from ≢ 0
+  pub within : part .from < 4096
+  pub not-all : part .from ≢ 0
   pub long : length work ≡ 1024
   pub fields : 3072 ≤ part .from → Below 1024 (drop (part .from - 3072) work)
 
--- the end of trimming, whatever statement stands there
-unfoldable pub Finished : List ℕ → Part → List ℕ → Trimmed → List ℕ → Type 0
-Finished work part out r out′ =
-    (q : Statement) → Ends q part work → (trimmedOutcome r ≡ trimFor q (length out)) × (out′ ≡ bufferAfter (trimFor q (length out)) (write q) out)
+-- the end of trimming a table of n nodes, whatever statement stands there
+unfoldable pub Finished : ℕ → List ℕ → Part → List ℕ → Trimmed → List ℕ → Type 0
+Finished n work part out r out′ =
+    (q : Statement) → Ends q part work → (trimmedOutcome r ≡ trimFor n q (length out)) × (out′ ≡ bufferAfter (trimFor n q (length out)) (write q) out)
