@@ -227,10 +227,10 @@ static void trim(const struct table *t)
 {
     static struct layout before, after;
     uint8_t out[MOST_BYTES];
-    uint32_t nodes;
+    uint32_t nodes, thousandths, remainder;
     size_t bytes;
     printf("  trim   ");
-    if (!accepted(deskheron_trim(t->bytes, t->len, out, sizeof out, &nodes, &bytes)))
+    if (!accepted(deskheron_trim(t->bytes, t->len, out, sizeof out, &nodes, &bytes, &thousandths, &remainder)))
         return;
     print_count(nodes, "node");
     printf(", %zu bytes:", bytes);
@@ -240,6 +240,9 @@ static void trim(const struct table *t)
     write_out(t->bytes, t->len, &before);
     write_out(out, bytes, &after);
     print_beside(&before, &after);
+    printf("  kept   ");
+    print_count(thousandths, "thousandth");
+    printf(", remainder %" PRIu32 "\n", remainder);
 }
 
 /* Label sets of states to look at, each once; the first is the start unless resumed says otherwise. */

@@ -132,9 +132,9 @@ static void call_reach(void)
 static void call_trim(void)
 {
     static uint8_t out[MOST_BYTES];
-    uint32_t found;
+    uint32_t found, thousandths, remainder;
     size_t bytes;
-    if (deskheron_trim(table, table_len, out, sizeof out, &found, &bytes))
+    if (deskheron_trim(table, table_len, out, sizeof out, &found, &bytes, &thousandths, &remainder))
         abort();
 }
 

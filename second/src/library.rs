@@ -19,6 +19,8 @@ extern "C" {
         out_len: usize,
         nodes: *mut u32,
         bytes: *mut usize,
+        thousandths: *mut u32,
+        remainder: *mut u32,
     ) -> u32;
     fn deskheron_list(
         table: *const u8,
@@ -92,9 +94,12 @@ pub fn reach(
     unsafe { deskheron_reach(bytes, len, start_ends, start_labels, reached, rounds) }
 }
 
-pub fn trim(table: &[u8], out: &mut [u8], nodes: &mut u32, bytes: &mut usize) -> u32 {
+/// `numbers` are the cells for the nodes, the thousandths and the remainder.
+pub fn trim(table: &[u8], out: &mut [u8], numbers: [&mut u32; 3], bytes: &mut usize) -> u32 {
+    let [nodes, thousandths, remainder] = numbers;
     let (out, out_len) = (pointer_mut(out), out.len());
-    unsafe { deskheron_trim(pointer(table), table.len(), out, out_len, nodes, bytes) }
+    let (table, len) = (pointer(table), table.len());
+    unsafe { deskheron_trim(table, len, out, out_len, nodes, bytes, thousandths, remainder) }
 }
 
 pub fn list(table: &[u8], asked: Asked, lent: [&mut [u8]; 3], count: &mut u32) -> u32 {

@@ -475,15 +475,28 @@ pub(crate) fn put_table(nodes: &[u16], out: &mut [u8]) -> Result<usize, u32> {
     Ok(length)
 }
 
-/// The operation trim: node count and byte length.
-pub fn trim(table: &[u8], out: &mut [u8]) -> Result<(u32, usize), u32> {
-    let (front, depth) = trimmed(&decode(table)?);
+/// What trim gives: node count, byte length, and the share that was kept.
+#[derive(Clone, Copy, Debug, PartialEq, Eq)]
+pub struct Trimmed {
+    pub nodes: u32,
+    pub bytes: usize,
+    pub thousandths: u32,
+    pub remainder: u32,
+}
+
+/// The operation trim.
+pub fn trim(table: &[u8], out: &mut [u8]) -> Result<Trimmed, u32> {
+    let source = decode(table)?;
+    let (front, depth) = trimmed(&source);
     let nodes = &front.out[front.top..];
     let n = nodes.len();
     if n > 1024 || depth > 60 {
         return Err(12);
     }
-    Ok((n as u32, put_table(nodes, out)?))
+    let bytes = put_table(nodes, out)?;
+    let (nodes, before) = (n as u32, source.n as u32);
+    let dividend = 1_000 * nodes;
+    Ok(Trimmed { nodes, bytes, thousandths: dividend / before, remainder: dividend % before })
 }
 
 /// A reaction as one number, so that numbers rise by O, then k, then L.

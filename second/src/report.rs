@@ -10,7 +10,7 @@ pub fn report(input: &[u8]) -> String {
 
 fn lines(input: &[u8]) -> Result<String, Refusal> {
     let before = check(input)?;
-    let (after, _) = trim_table(input, length(MOST_NODES))?;
+    let after = trim_table(input, length(MOST_NODES))?.nodes;
     let reached = reach(input)?;
     let labels: String = reached.r.iter().map(|label| format!(" {label}")).collect();
     Ok(format!("nodes {before} {after}\nlabels{labels}\nrounds {}\n", reached.rounds))

@@ -103,6 +103,25 @@ pub fn kept(n: usize) -> Statement {
     }
 }
 
+/// A statement of n nodes of which trimming leaves nothing.
+pub fn dropped(n: usize) -> Statement {
+    if n % 2 == 0 {
+        return Signal(0, dropped(n - 1).into());
+    }
+    even(vec![Nothing; n / 2 + 1], sequence)
+}
+
+/// A jump to each label from 1 on, in parallel.
+pub fn jumps_to(labels: u8) -> Statement {
+    even((1..=labels).map(Gotopause).collect(), parallel)
+}
+
+/// Pauses with the labels from 1 on in presents that only jumps to each of them reach: 4 nodes for each but
+/// the first. Trimming makes 3 more of each present.
+pub fn only_jumped_to(labels: u8) -> Statement {
+    sequence(jumps_to(labels), even((1..=labels).map(Pause).collect(), present))
+}
+
 /// So many loops around a statement.
 pub fn inside_loops(loops: usize, p: Statement) -> Statement {
     (0..loops).fold(p, |p, _| Loop(p.into()))

@@ -137,9 +137,30 @@ pub fn trim_program(p: &Statement) -> Statement {
     trim(&rounds(p).0, true, p)
 }
 
-/// The operation trim, for an output buffer of so many bytes: the trimmed table.
-pub fn trim_table(bytes: &[u8], buffer: usize) -> Result<(usize, Vec<u8>), Refusal> {
-    let trimmed = trim_program(&read(bytes)?);
+/// The share that was kept: "the quotient and the remainder of 1,000 × (nodes after) divided by
+/// (nodes before)".
+#[derive(Clone, Copy, Debug, PartialEq, Eq)]
+pub struct Share {
+    pub thousandths: usize,
+    pub remainder: usize,
+}
+
+pub fn share_of(before: usize, after: usize) -> Share {
+    Share { thousandths: 1_000 * after / before, remainder: 1_000 * after % before }
+}
+
+/// What trim gives: the node count, the table, and the share that was kept.
+#[derive(Clone, Debug, PartialEq, Eq)]
+pub struct Trimmed {
+    pub nodes: usize,
+    pub table: Vec<u8>,
+    pub share: Share,
+}
+
+/// The operation trim, for an output buffer of so many bytes.
+pub fn trim_table(bytes: &[u8], buffer: usize) -> Result<Trimmed, Refusal> {
+    let p = read(bytes)?;
+    let trimmed = trim_program(&p);
     let n = trimmed.nodes();
     if n > MOST_NODES || trimmed.depth() > MOST_DEPTH {
         return Err(12);
@@ -147,5 +168,5 @@ pub fn trim_table(bytes: &[u8], buffer: usize) -> Result<(usize, Vec<u8>), Refus
     if buffer < length(n) {
         return Err(13);
     }
-    Ok((n, write(&trimmed)))
+    Ok(Trimmed { nodes: n, table: write(&trimmed), share: share_of(p.nodes(), n) })
 }

@@ -1,6 +1,6 @@
 //! Times each operation of the proved library against the plain implementation, on the same
-//! generated tables and texts in one process. What both answer is compared first: for reach and step
-//! every value that they give, for the others a refusal or the count.
+//! generated tables and texts in one process. What both answer is compared first: for reach, trim and
+//! step every value that they give, for the others a refusal or the count.
 //!
 //! Each figure is the best of several batches that take turns. Result buffers are not cleared
 //! before a call. A call includes everything that the operation does, the making ready of its
@@ -115,10 +115,14 @@ fn trim(row: &Row) {
         "trim",
         row,
         &mut |table| {
-            let (mut nodes, mut bytes) = (0, 0);
-            library::trim(table, &mut out, &mut nodes, &mut bytes) + nodes
+            let (mut nodes, mut bytes, mut thousandths, mut remainder) = (0, 0, 0, 0);
+            let numbers = [&mut nodes, &mut thousandths, &mut remainder];
+            match library::trim(table, &mut out, numbers, &mut bytes) {
+                0 => Ok(plain::Trimmed { nodes, bytes, thousandths, remainder }),
+                refusal => Err(refusal),
+            }
         },
-        &mut |table| plain::trim(table, &mut other).map_or_else(|refusal| refusal, |t| t.0),
+        &mut |table| plain::trim(table, &mut other),
     );
 }
 
@@ -283,6 +287,12 @@ fn on_tables(random: &mut Random, tables: usize) {
             let p = exits_of_each_level(tries);
             operation(&one(format!("{tries} exits, {tries} tries"), p));
         }
+    }
+    for labels in [4, 16, 63] {
+        trim(&one(format!("{labels} labels only jumped to"), only_jumped_to(labels)));
+    }
+    for n in [16, 256, 1024] {
+        trim(&one("nothing left".into(), dropped(n)));
     }
     plain_listings(random_rows(random, tables));
     signal_listings();

@@ -6,6 +6,7 @@ use crate::reaching::made;
 use crate::stepping::{examples, ten_signals};
 use crate::texts;
 use crate::trial::{hex, Outcome};
+use crate::trimming::{shares, AMPLE};
 use crate::Amount;
 use second::codes::{d, rounds, s, Codes, Labels, Qualified::*};
 use second::list::{state, too_many};
@@ -15,7 +16,7 @@ use second::report::report;
 use second::step::{emitted_free, made_of, step, steps_under, subsets, Step};
 use second::table::{check, length, read, write, MOST_DEPTH, MOST_NODES};
 use second::text::{self, parse, print};
-use second::trim::trim_program;
+use second::trim::{trim_program, trim_table, Share};
 use std::collections::BTreeSet;
 use std::fmt::Debug;
 
@@ -87,6 +88,25 @@ pub fn lettered(_: Amount) -> Outcome {
     let l = parse("loop nothing end");
     same("L", reactions("loop nothing end", Start, 0), vec![])?;
     same("L", trim_program(&l), l)
+}
+
+/// The share that is kept of the programs made for it; and of random ones the division comes out.
+pub fn shares_kept(amount: Amount) -> Outcome {
+    for (p, thousandths, remainder) in shares() {
+        let given = trim_table(&write(&p), AMPLE).map(|trimmed| trimmed.share);
+        same(&format!("kept of {}", print(&p)), given, Ok(Share { thousandths, remainder }))?;
+    }
+    let mut random = Random(24);
+    for _ in 0..amount.of(2_000) {
+        let bytes = table(&mut random);
+        let (Ok(before), Ok(trimmed)) = (check(&bytes), trim_table(&bytes, AMPLE)) else {
+            continue;
+        };
+        let Share { thousandths, remainder } = trimmed.share;
+        same("remainder below the nodes", remainder < before, true)?;
+        same("divided", thousandths * before + remainder, 1_000 * trimmed.nodes)?;
+    }
+    Ok(())
 }
 
 /// What report prints: refusals 1 to 12 and what stands one beside a 12, an empty R, and inputs that

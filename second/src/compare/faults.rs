@@ -1,9 +1,10 @@
 //! Faults planted in the second implementation: the comparison has to report each of them.
 
 use crate::misreading::{Misreading, Miswriting, MISREADINGS, MISWRITINGS};
-use crate::mistakes::{Mistake, MISTAKES};
-use crate::tool::{answer, put, Asked, Operation, ReachCells, Second, StepCells, Tool};
+use crate::mistakes::{Misdivision, Mistake, MISDIVISIONS, MISTAKES};
+use crate::tool::{answer, put, Asked, Operation, ReachCells, Second, StepCells, Tool, Trimmed};
 use crate::trial::{refusals, Outcome, Trial};
+use second::table::bits;
 use std::cell::Cell;
 
 /// The so named thing that is lent: at its first byte, or at its last. Of a cell, its lowest bit or
@@ -26,6 +27,8 @@ pub enum Fault {
     Beyond(Place),
     /// step goes a wrong way
     Wrong(Mistake),
+    /// what was kept is divided in a wrong way
+    Misdivided(Misdivision),
     /// a text is read in a wrong way
     Misread(Misreading),
     /// a text is written in a wrong way
@@ -37,7 +40,7 @@ fn lent_to(operation: Operation) -> (&'static [&'static str], &'static [&'static
     match operation {
         Operation::Check => (&["nodes"], &[]),
         Operation::Reach => (&["start_ends", "start_labels", "reached", "rounds"], &[]),
-        Operation::Trim => (&["nodes", "bytes"], &["out"]),
+        Operation::Trim => (&["nodes", "bytes", "thousandths", "remainder"], &["out"]),
         Operation::List => (&["count"], &["o", "k", "l"]),
         Operation::Step => (&["answer", "assumed", "emitted", "code", "reached"], &[]),
         Operation::ReadText | Operation::WriteText => (&["bytes"], &["out"]),
@@ -45,7 +48,7 @@ fn lent_to(operation: Operation) -> (&'static [&'static str], &'static [&'static
 }
 
 /// The faults of an operation: each number changed, and each thing lent touched before each refusal,
-/// in an accepted result, and past it; for step, reading and writing also the mistakes.
+/// in an accepted result, and past it; for trim, step, reading and writing also the mistakes.
 fn faults(operation: Operation) -> Vec<Fault> {
     let refusals = || refusals(operation).map(|refusal| refusal as u32);
     let (cells, buffers) = lent_to(operation);
@@ -59,6 +62,7 @@ fn faults(operation: Operation) -> Vec<Fault> {
         faults.extend(buffers.iter().map(|lent| Fault::Beyond(Place { lent, last })));
     }
     match operation {
+        Operation::Trim => faults.extend(MISDIVISIONS.iter().copied().map(Fault::Misdivided)),
         Operation::Step => faults.extend(MISTAKES.iter().copied().map(Fault::Wrong)),
         Operation::ReadText => faults.extend(MISREADINGS.iter().copied().map(Fault::Misread)),
         Operation::WriteText => faults.extend(MISWRITINGS.iter().copied().map(Fault::Miswritten)),
@@ -184,13 +188,23 @@ impl Tool for Planted {
         self.spoil(answer, lent)
     }
 
-    fn trim(&self, table: &[u8], out: &mut [u8], nodes: &mut u32, bytes: &mut usize) -> u32 {
-        let answer = Second.trim(table, out, nodes, bytes);
+    fn trim(&self, table: &[u8], out: &mut [u8], cells: &mut Trimmed) -> u32 {
+        let answer = Second.trim(table, out, cells);
+        let Trimmed { nodes, bytes, thousandths, remainder } = cells;
+        if let (Fault::Misdivided(mistake), 0) = (self.fault, answer) {
+            let wrong = mistake.divide(bits(table, 4, 12) as u32, *nodes);
+            if wrong != (*thousandths, *remainder) && self.turn() {
+                (*thousandths, *remainder) = wrong;
+            }
+            return answer;
+        }
         let written = if answer == 0 { *bytes } else { 0 };
         let lent = &mut [
             ("out", Lent::Buffer(out, written)),
             ("nodes", Lent::Number(nodes)),
             ("bytes", Lent::Size(bytes)),
+            ("thousandths", Lent::Number(thousandths)),
+            ("remainder", Lent::Number(remainder)),
         ];
         self.spoil(answer, lent)
     }

@@ -5,9 +5,9 @@ use crate::checking::raw;
 use crate::listing::{inside_signals, resumed, start, ROOMY};
 use crate::stepping::examples;
 use crate::trial::{Outcome, Trial};
-use crate::trimming::AMPLE;
+use crate::trimming::{shares, AMPLE};
 use crate::Amount;
-use second::statement::Statement::{self, *};
+use second::statement::Statement::*;
 use second::table::{length, write, MOST_DEPTH, MOST_NODES};
 use second::text::parse;
 use second::trees::*;
@@ -42,19 +42,15 @@ pub fn tables() -> Vec<(u32, Vec<u8>)> {
     ]
 }
 
-/// Trimming makes it three nodes longer and two levels deeper: 10 nodes, depth 5.
-fn growing() -> Statement {
-    parse("[gotopause 1 || gotopause 2] ; present S0 then 1:pause else 2:pause end")
-}
-
-/// A program whose trimmed form has so many nodes.
+/// A program whose trimmed form has so many nodes. Of two labels only jumped to trimming makes 10 nodes
+/// of 7, and depth 5 of 3.
 fn trimmed_nodes(n: usize) -> Vec<u8> {
-    write(&sequence(kept(n - 11), growing()))
+    write(&sequence(kept(n - 11), only_jumped_to(2)))
 }
 
 /// A program whose trimmed form has this depth.
 fn trimmed_depth(depth: usize) -> Vec<u8> {
-    write(&(5..depth).fold(growing(), |p, _| sequence(Emit(0), p)))
+    write(&(5..depth).fold(only_jumped_to(2), |p, _| sequence(Emit(0), p)))
 }
 
 /// Tables that trim refuses with 12, by their nodes and by their depth, and those just below, which
@@ -79,14 +75,14 @@ pub fn reach(t: &mut Trial, _: Amount) -> Outcome {
 }
 
 /// Refusals 1 to 12 with a buffer that is long enough and with a short one, which gives 13 where
-/// the table is accepted.
+/// the table is accepted; the edges of the share that is kept.
 pub fn trim(t: &mut Trial, _: Amount) -> Outcome {
     for (_, table) in [tables(), grown_tables()].concat() {
         for buffer in [AMPLE, length(1) - 1] {
             t.trim(&table, buffer)?;
         }
     }
-    Ok(())
+    shares().iter().try_for_each(|(p, _, _)| t.trim(&write(p), AMPLE).map(|_| ()))
 }
 
 /// Check's refusals; 14; 15 of the table's own list and of an inner one; 16 by each buffer; 0, 1, 3

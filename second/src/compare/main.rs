@@ -80,6 +80,7 @@ const TRIM: &[Group] = &[
     ("small trees", trimming::small_trees),
     ("edges, around 1,024 nodes and depth 60", trimming::edges),
     ("buffer lengths", trimming::buffers),
+    ("the share that is kept", trimming::kept_shares),
     ("codes through tries", tries::trim),
     ("random tables", trimming::random_tables),
 ];
@@ -238,6 +239,7 @@ fn bounded(results: &mut Results, amount: Amount) {
     results.run("codes and reactions", || cases::analysis(amount));
     results.run("codes through a try", || tries::by_itself(amount));
     results.run("runs of trimmed programs", || cases::trimmed_runs(amount));
+    results.run("the share that is kept", || cases::shares_kept(amount));
     results.run("worked examples of step", || cases::stepped(amount));
     results.run("steps under every set", || cases::steps(amount));
     results.run("worked examples of texts", || cases::texts(amount));

@@ -1,5 +1,5 @@
-//! Wrong ways to step, that a programmer might take. The calls made for step's answers and refusals
-//! have to tell each of them from the right one.
+//! Wrong ways to step, and to say how much was kept, that a programmer might take. The calls made for
+//! the answers and refusals of step and of trim have to tell each of them from the right one.
 
 use crate::listing::signals;
 use crate::tool::Asked;
@@ -142,5 +142,54 @@ impl Mistake {
             assumed.into_iter().flat_map(|e| self.steps(&p, state, i, e)).collect();
         steps.truncate(if self == FirstFound { 1 } else { steps.len() });
         Ok(answer(&steps))
+    }
+}
+
+mistakes! { Misdivision MISDIVISIONS
+    /// nodes before and nodes after are exchanged
+    Exchanged
+    /// a quotient with a remainder is rounded up
+    RoundedUp
+    /// the quotient is rounded to the nearest
+    RoundedToNearest
+    /// the remainder is that of a division by 1,000, and so 0
+    OtherDivisor
+    /// the remainder is that of the nodes after, not of a thousand times as many
+    ThousandForgotten
+    /// the remainder is what is missing to the next quotient
+    RemainderMissing
+    /// hundredths, not thousandths
+    Hundredths
+    /// what was stripped, not what was kept
+    Stripped
+    /// no more than 1,000, as if no program could become longer
+    Capped
+    /// the thousandfold cut to 16 bits
+    SixteenBits
+}
+
+impl Misdivision {
+    /// The quotient and the remainder of a table of so many nodes and its trimmed table.
+    pub fn divide(self, before: u32, after: u32) -> (u32, u32) {
+        let dividend = 1_000 * after;
+        let (quotient, remainder) = (dividend / before, dividend % before);
+        match self {
+            Misdivision::Exchanged => (1_000 * before / after, 1_000 * before % after),
+            Misdivision::RoundedUp => (dividend.div_ceil(before), remainder),
+            Misdivision::RoundedToNearest => ((dividend + before / 2) / before, remainder),
+            Misdivision::OtherDivisor => (quotient, dividend % 1_000),
+            Misdivision::ThousandForgotten => (quotient, after % before),
+            Misdivision::RemainderMissing => (quotient, (before - remainder) % before),
+            Misdivision::Hundredths => (100 * after / before, 100 * after % before),
+            Misdivision::Stripped => {
+                let gone = 1_000 * before.saturating_sub(after);
+                (gone / before, gone % before)
+            }
+            Misdivision::Capped => (quotient.min(1_000), remainder),
+            Misdivision::SixteenBits => {
+                let cut = u32::from(dividend as u16);
+                (cut / before, cut % before)
+            }
+        }
     }
 }

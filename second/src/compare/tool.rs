@@ -1,7 +1,7 @@
 //! What is compared: something that answers the seven calls of the C interface. The proved library,
 //! the second implementation, and the plain one of the benchmark.
 
-pub use second::plain::Asked;
+pub use second::plain::{Asked, Trimmed};
 use second::react::Reaction;
 use second::step::Answer;
 use second::{codes, library, list, plain, plain_text, step, table, text, trim};
@@ -70,7 +70,7 @@ impl StepCells {
 pub trait Tool {
     fn check(&self, table: &[u8], nodes: &mut u32) -> u32;
     fn reach(&self, table: &[u8], cells: &mut ReachCells) -> u32;
-    fn trim(&self, table: &[u8], out: &mut [u8], nodes: &mut u32, bytes: &mut usize) -> u32;
+    fn trim(&self, table: &[u8], out: &mut [u8], cells: &mut Trimmed) -> u32;
     fn list(&self, table: &[u8], asked: Asked, lent: [&mut [u8]; 3], count: &mut u32) -> u32;
     fn step(&self, table: &[u8], asked: Asked, cells: &mut StepCells) -> u32;
     fn read_text(&self, text: &[u8], out: &mut [u8], bytes: &mut usize) -> u32;
@@ -113,10 +113,12 @@ impl Tool for Second {
         })
     }
 
-    fn trim(&self, table: &[u8], out: &mut [u8], nodes: &mut u32, bytes: &mut usize) -> u32 {
-        answer(trim::trim_table(table, out.len()), |(n, trimmed)| {
-            put(&trimmed, out, bytes);
-            *nodes = n as u32;
+    fn trim(&self, table: &[u8], out: &mut [u8], cells: &mut Trimmed) -> u32 {
+        answer(trim::trim_table(table, out.len()), |trimmed| {
+            put(&trimmed.table, out, &mut cells.bytes);
+            cells.nodes = trimmed.nodes as u32;
+            cells.thousandths = trimmed.share.thousandths as u32;
+            cells.remainder = trimmed.share.remainder as u32;
         })
     }
 
@@ -162,8 +164,8 @@ impl Tool for Plain {
         })
     }
 
-    fn trim(&self, table: &[u8], out: &mut [u8], nodes: &mut u32, bytes: &mut usize) -> u32 {
-        answer(plain::trim(table, out), |trimmed| (*nodes, *bytes) = trimmed)
+    fn trim(&self, table: &[u8], out: &mut [u8], cells: &mut Trimmed) -> u32 {
+        answer(plain::trim(table, out), |trimmed| *cells = trimmed)
     }
 
     fn list(&self, table: &[u8], asked: Asked, lent: [&mut [u8]; 3], count: &mut u32) -> u32 {
@@ -196,8 +198,9 @@ impl Tool for Library {
         library::reach(table, start_ends, start_labels, reached, rounds)
     }
 
-    fn trim(&self, table: &[u8], out: &mut [u8], nodes: &mut u32, bytes: &mut usize) -> u32 {
-        library::trim(table, out, nodes, bytes)
+    fn trim(&self, table: &[u8], out: &mut [u8], cells: &mut Trimmed) -> u32 {
+        let Trimmed { nodes, bytes, thousandths, remainder } = cells;
+        library::trim(table, out, [nodes, thousandths, remainder], bytes)
     }
 
     fn list(&self, table: &[u8], asked: Asked, lent: [&mut [u8]; 3], count: &mut u32) -> u32 {

@@ -3,7 +3,7 @@
 //! the table or text included. What was met is counted.
 
 use crate::listing::signals;
-use crate::tool::{Asked, Operation, ReachCells, Second, StepCells, Tool, OPERATIONS};
+use crate::tool::{Asked, Operation, ReachCells, Second, StepCells, Tool, Trimmed, OPERATIONS};
 use second::list::{MOST_REACTIONS, MOST_SIGNALS};
 use second::met::{codes_passed, count, counting, Event, Passage, CASES, RULES};
 use second::react::Reaction;
@@ -16,6 +16,9 @@ use std::fmt::Debug;
 /// What an operation gives where it is not refused.
 pub type Given<T> = Result<Option<T>, String>;
 
+/// Of no table more thousandths are kept, says the theorem on trim's answers; a call that gives more fails.
+pub const MOST_KEPT: u32 = 1_741;
+
 /// The largest node counts of the size classes of accepted tables.
 const SIZES: [usize; 7] = [1, 4, 16, 64, 256, 1023, 1024];
 
@@ -26,6 +29,14 @@ pub enum Seen {
     TrimmedChanged,
     /// it has more nodes
     TrimmedGrew,
+    /// 1,000 thousandths of the nodes are kept, without remainder
+    WholeKept,
+    /// fewer, with a remainder
+    PartKept,
+    /// less than one
+    LeastKept,
+    /// as many as a table can keep
+    MostKept,
     /// more than 20
     ManyRounds,
     /// 64 reactions
@@ -51,9 +62,13 @@ pub enum Seen {
     DeepText,
 }
 
-pub const SEEN: [Seen; 13] = [
+pub const SEEN: [Seen; 17] = [
     Seen::TrimmedChanged,
     Seen::TrimmedGrew,
+    Seen::WholeKept,
+    Seen::PartKept,
+    Seen::LeastKept,
+    Seen::MostKept,
     Seen::ManyRounds,
     Seen::FullListing,
     Seen::EmptyListing,
@@ -213,7 +228,12 @@ pub fn refusals(operation: Operation) -> impl Iterator<Item = usize> {
 /// Whether these operations have to bring a sight about.
 fn due(seen: Seen, operations: &[Operation]) -> bool {
     let needed: &[Operation] = match seen {
-        Seen::TrimmedChanged | Seen::TrimmedGrew => &[Operation::Trim],
+        Seen::TrimmedChanged
+        | Seen::TrimmedGrew
+        | Seen::WholeKept
+        | Seen::PartKept
+        | Seen::LeastKept
+        | Seen::MostKept => &[Operation::Trim],
         Seen::ManyRounds => &[Operation::Reach],
         Seen::FullListing | Seen::EmptyListing | Seen::InnerTooMany => &[Operation::List],
         Seen::LongRun => &[Operation::Trim, Operation::List],
@@ -293,25 +313,46 @@ impl Trial<'_> {
     /// Trims into a buffer of so many bytes; the trimmed table where it is accepted.
     pub fn trim(&mut self, table: &[u8], buffer: usize) -> Given<Vec<u8>> {
         let (paint, margin) = (self.next_paint(), self.margin);
+        let number = u32::from(paint) * 0x0101_0101;
+        let painted_cells = Trimmed {
+            nodes: number,
+            bytes: usize::from(paint),
+            thousandths: number,
+            remainder: number,
+        };
         let ask = |tool: &dyn Tool, table: &[u8]| {
             let mut out = painted(buffer, margin, paint);
-            let (mut nodes, mut bytes) = ([u32::from(paint); 3], [usize::from(paint); 3]);
-            let answer = tool.trim(table, out.lend(), &mut nodes[1], &mut bytes[1]);
-            (answer, (nodes, bytes, out))
+            let mut cells = [painted_cells; 3];
+            let answer = tool.trim(table, out.lend(), &mut cells[1]);
+            (answer, (cells, out))
         };
         let more = || format!("buffer of {buffer} bytes");
-        let (answer, (nodes, bytes, mut out)) = self.compare(Operation::Trim, table, ask, more)?;
+        let (answer, (cells, mut out)) = self.compare(Operation::Trim, table, ask, more)?;
         if answer != 0 {
             return Ok(None);
         }
-        let trimmed = out.lend()[..bytes[1]].to_vec();
-        if nodes[1] as usize > bits(table, 4, 12) {
+        let Trimmed { nodes, bytes, thousandths, remainder } = cells[1];
+        let trimmed = out.lend()[..bytes].to_vec();
+        if nodes as usize > bits(table, 4, 12) {
             self.counts.see(Seen::TrimmedGrew);
         }
         if trimmed != table {
             self.counts.see(Seen::TrimmedChanged);
         }
+        self.see_share(thousandths, remainder)?;
         Ok(Some(trimmed))
+    }
+
+    fn see_share(&mut self, thousandths: u32, remainder: u32) -> Outcome {
+        match (thousandths, remainder) {
+            (0, _) => self.counts.see(Seen::LeastKept),
+            (1_000, 0) => self.counts.see(Seen::WholeKept),
+            (MOST_KEPT, _) => self.counts.see(Seen::MostKept),
+            (1..1_000, 1..) => self.counts.see(Seen::PartKept),
+            (0..MOST_KEPT, _) => {}
+            _ => return Err(format!("{thousandths} thousandths are kept")),
+        }
+        Ok(())
     }
 
     /// Lists into buffers of so many bytes; the reactions where it is accepted.

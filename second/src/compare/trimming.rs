@@ -2,12 +2,15 @@
 
 use crate::checking::edge_tables;
 use crate::reaching::made;
-use crate::trial::{Outcome, Trial};
+use crate::trial::{Outcome, Trial, MOST_KEPT};
 use crate::Amount;
 use second::random::{any_table, sized_table, Random};
 use second::statement::Statement::{self, *};
 use second::table::{length, write, MOST_DEPTH, MOST_NODES};
-use second::trees::{each_tree, even, kept, parallel, present, sequence, uneven};
+use second::text::parse;
+use second::trees::{
+    dropped, each_tree, jumps_to, kept, only_jumped_to, parallel, present, sequence, uneven,
+};
 use second::trim::trim_program;
 
 /// A buffer that holds every table.
@@ -28,7 +31,6 @@ pub fn small_trees(t: &mut Trial, amount: Amount) -> Outcome {
 /// Presents that are only resumed, each label reached by a jump. They grow where they are trimmed.
 fn resumed_presents(random: &mut Random) -> Statement {
     let count = random.between(2, 20) as u8;
-    let jumps = even((1..=count).map(Gotopause).collect(), parallel);
     let blocks = (1..=count)
         .map(|label| match random.below(4) {
             0 => sequence(Pause(label), Exit(1)),
@@ -38,7 +40,7 @@ fn resumed_presents(random: &mut Random) -> Statement {
         })
         .collect();
     let joins = [present, present, present, sequence, parallel];
-    Try(sequence(jumps, uneven(random, blocks, &joins)).into())
+    Try(sequence(jumps_to(count), uneven(random, blocks, &joins)).into())
 }
 
 /// Check's edge tables, and programs whose trimmed form ends up around 1,024 nodes, and around depth 60.
@@ -79,6 +81,45 @@ pub fn buffers(t: &mut Trial, amount: Amount) -> Outcome {
         let table = sized_table(&mut random, n);
         let needed = t.trim(&table, AMPLE)?.map_or(table.len(), |trimmed| trimmed.len());
         (0..=needed + 2).try_for_each(|buffer| t.trim(&table, buffer).map(|_| ()))?;
+    }
+    Ok(())
+}
+
+/// Programs and the share of them that is kept, in thousandths and the remainder: the most that any table
+/// keeps, the least, the whole, some that become shorter and some that become longer.
+pub fn shares() -> Vec<(Statement, usize, usize)> {
+    vec![
+        (only_jumped_to(63), MOST_KEPT as usize, 9),
+        (only_jumped_to(62), 1_740, 220),
+        (dropped(MOST_NODES), 0, 1_000),
+        (dropped(1_001), 0, 1_000),
+        (dropped(1_000), 1, 0),
+        (dropped(999), 1, 1),
+        (Nothing, 1_000, 0),
+        (kept(MOST_NODES), 1_000, 0),
+        (sequence(kept(MOST_NODES - 2), Nothing), 998, 48),
+        (parse("try try exit 1 ; emit S1 || exit 2 end end"), 714, 2),
+        (sequence(Emit(0), Nothing), 333, 1),
+        (only_jumped_to(1), 1_000, 0),
+        (only_jumped_to(2), 1_428, 4),
+    ]
+}
+
+/// The edges of the share that is kept, into buffers that hold the table and that don't; each number of labels
+/// that only jumps reach; and of 3 to 1,024 nodes any number kept but for the last two.
+pub fn kept_shares(t: &mut Trial, amount: Amount) -> Outcome {
+    for (p, _, _) in shares() {
+        at_lengths(t, &p)?;
+    }
+    for labels in 1..=63 {
+        t.trim(&write(&only_jumped_to(labels)), AMPLE)?;
+    }
+    let mut random = Random(32);
+    for _ in 0..amount.of(3_000) {
+        let before = random.between(3, MOST_NODES);
+        let after = random.between(1, before - 2);
+        let p = sequence(kept(after), dropped(before - after - 1));
+        t.trim(&write(&p), AMPLE)?;
     }
     Ok(())
 }
