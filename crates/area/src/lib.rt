@@ -1,5 +1,6 @@
 // Lists of rows in order, one above the other in a lent area of words. A row is two words, one of O, k and its condition, and L.
 // Whoever makes a list returns how many rows it has, or one of the numbers above MOST below.
+#![tactic(auto)]
 ghost use Rattle.std.specs.Prelude.{◌≡◌, true, false, not, [], ◌∷◌, ◌++◌, ℕ, ◌+◌, ◌*◌, ◌/◌, ◌%◌, ◌^◌, ◌≤◌, ◌<◌, max, length};
 ghost use Rattle.std.proofs.Math.Option.{some};
 ghost use Rattle.sets.specs.Set.{only};
@@ -29,7 +30,7 @@ const SPARE: usize = 2 * MOST + 2;
 
 // What a statement does with each row of its body: a local signal that is present; one that is unknown, with its slot; a branch
 // of a test on an unknown signal, with the condition that it adds; a loop; a try.
-#[derive(Drop)]
+#[derive(Clone, Copy)]
 pub enum Change {
     Hide(u8),
     Local(u8, u8),
@@ -39,7 +40,7 @@ pub enum Change {
 }
 
 // How the rows of two parts meet in one instant.
-#[derive(Drop)]
+#[derive(Clone, Copy)]
 pub enum Pairing {
     Sequence,
     Parallel,
@@ -390,7 +391,7 @@ pub fn some_ends(area: &[u64], base: usize, n: usize) -> bool
 }
 
 // A row as its two words.
-#[derive(Drop)]
+#[derive(Clone, Copy)]
 pub struct Words {
     pub w: u64,
     pub l: u64,

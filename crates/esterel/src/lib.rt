@@ -1,19 +1,20 @@
 // The three counters of Esterel*: labels, exit levels and completion codes. No number is taken from one to another but here.
 // And the share of a program that was kept.
+#![tactic(auto)]
 ghost use Rattle.std.specs.Prelude.{◌≡◌, ◌≤◌, max};
 ghost use Rattle.esterel.specs.Codes.{code_of, through};
 ghost use Rattle.esterel.specs.Shares.{thousandths, remainder};
 
 // The label of a pause, 1 to 63.
-#[derive(Drop)]
+#[derive(Clone, Copy)]
 pub struct Label(pub u8);
 
 // The level of an exit: how many try statements it leaves.
-#[derive(Drop)]
+#[derive(Clone, Copy)]
 pub struct Level(pub u8);
 
 // A completion code: 0 ended, 1 paused, and above that an exit.
-#[derive(Drop)]
+#[derive(Clone, Copy)]
 pub struct Code(pub u16);
 
 // The codes that are not of an exit.
@@ -45,7 +46,7 @@ pub fn larger(a: u16, b: u16) -> u16
 }
 
 // The share of a program that was kept: whole thousandths of its nodes, and the remainder of that division.
-#[derive(Drop)]
+#[derive(Clone, Copy)]
 pub struct Share {
     pub thousandths: u32,
     pub remainder: u32,

@@ -4,6 +4,7 @@
 // pauses and its nesting. The lister then visits a statement once for each of its lists that is needed. The body of a signal
 // statement is usually listed once, with the signal unknown, and again with it present and with it absent only where that gives
 // up; a part that cannot react in the state is not visited.
+#![tactic(auto)]
 mod finding;
 mod noting;
 mod preparing;
@@ -34,21 +35,21 @@ const TOO_SHORT: u8 = 16;
 pub const SMALL: usize = 272;
 
 // List's answer: the number of the refusal, or how many reactions there are.
-#[derive(Drop)]
+#[derive(Clone, Copy)]
 pub enum Answer {
     Refused(u8),
     Listed(u32),
 }
 
 // A state of a program: the start, or resumed with a label set.
-#[derive(Drop)]
+#[derive(Clone, Copy)]
 pub enum State {
     Start,
     Resumed(u64),
 }
 
 // What was prepared of a table: the number of the refusal, or the nodes and what is noted of them in lent rooms.
-#[derive(Drop)]
+#[derive(Clone, Copy)]
 pub enum Prepared {
     Refused(u8),
     Accepted,

@@ -7,7 +7,7 @@ use esterel::{Code, Label};
 
 // The labels whose code 1 is in the set, and the word of its other codes: bit 0 for code 0, bit k − 1 for a code k of 2 and
 // up. Code 1 needs no bit there, so codes 0 to 64 fit.
-#[derive(Drop)]
+#[derive(Clone, Copy)]
 pub struct CodeSet {
     pub labels: u64,
     pub codes: u64,

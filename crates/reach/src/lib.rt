@@ -1,4 +1,5 @@
 // Reach: one pass over the nodes for a summary of the statement, then rounds over it until none adds a label.
+#![tactic(auto)]
 pub mod codes;
 mod summary;
 
@@ -13,7 +14,7 @@ pub use summary::BEYOND;
 use table::Checked;
 
 // What the rounds come to: the codes of the started statement, R, and the number of rounds.
-#[derive(Drop)]
+#[derive(Clone, Copy)]
 pub struct Settled {
     pub start: CodeSet,
     pub set: u64,
@@ -21,7 +22,7 @@ pub struct Settled {
 }
 
 // The analysis of nodes: refused where one is of a kind above 10, which is never so for those of an accepted table.
-#[derive(Drop)]
+#[derive(Clone, Copy)]
 pub enum Analysed {
     Refused,
     Rest(Settled),
@@ -63,7 +64,7 @@ pub fn settle(nodes: &[u16; table::MOST_NODES]) -> Analysed
 }
 
 // Reach's answer.
-#[derive(Drop)]
+#[derive(Clone, Copy)]
 pub enum Reached {
     // Check's refusal.
     Refused(u8),

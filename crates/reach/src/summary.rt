@@ -23,7 +23,7 @@ pub const BEYOND: usize = 1025;
 
 // The codes of the started statement, the labels of its pauses, those of them from which it can end, and the place after
 // its last node.
-#[derive(Drop)]
+#[derive(Clone, Copy)]
 pub struct Summary {
     pub start: CodeSet,
     pub pauses: u64,

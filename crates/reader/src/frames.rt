@@ -4,7 +4,7 @@ ghost use Rattle.reader.specs.inner.Held.{framed, opened_of, opened_number, flag
 
 use table::DEEPEST;
 
-#[derive(Drop)]
+#[derive(Clone, Copy)]
 pub enum Opened {
     Bracket,
     Ending,
@@ -12,7 +12,7 @@ pub enum Opened {
 }
 
 // What is open, with what stands behind it: whether a `;`, whether a `||`, and how many nodes.
-#[derive(Drop)]
+#[derive(Clone, Copy)]
 pub struct Frame {
     pub opened: Opened,
     pub after: bool,

@@ -36,7 +36,7 @@ pub const COLON_PAUS: u64 = 0x73_7561_703a;
 const HUGE: u8 = 100;
 
 // A number, and the place where it begins; broken where there is none, or a leading zero.
-#[derive(Drop)]
+#[derive(Clone, Copy)]
 pub enum Digits {
     Broken,
     From(u8, usize),

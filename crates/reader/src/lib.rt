@@ -1,4 +1,5 @@
 // Reading a statement text into a table.
+#![tactic(auto)]
 mod frames;
 mod lexing;
 mod moves;

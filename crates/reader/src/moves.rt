@@ -11,7 +11,7 @@ use table::{DEEPEST, MOST_NODES};
 
 // Where the reader stands: whether a `;` and whether a `||` stands behind, how many brackets and `end`s may still be opened, how many
 // nodes there are.
-#[derive(Drop)]
+#[derive(Clone, Copy)]
 pub struct Reader {
     pub after: bool,
     pub beside: bool,
@@ -20,7 +20,7 @@ pub struct Reader {
 }
 
 // What was taken: nothing where the text is broken; else the place before it, and whether a statement is due there or a chain was met.
-#[derive(Drop)]
+#[derive(Clone, Copy)]
 pub enum Taken {
     Broken,
     Due(usize, Reader),

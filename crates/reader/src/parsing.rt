@@ -19,7 +19,7 @@ use crate::{lexing, moves};
 use table::{DEEPEST, MOST_NODES};
 
 // What a text is found to be.
-#[derive(Drop)]
+#[derive(Clone, Copy)]
 pub enum Parsed {
     Broken,
     Outside,

@@ -1,5 +1,6 @@
 // Reads a table from standard input and prints its node counts before and after trimming, the labels that can ever be
 // reached, and the number of rounds; or the refusal.
+#![tactic(auto)]
 use libc::{STDIN_FILENO, STDOUT_FILENO};
 use reach::Reached;
 use trim::Trimmed;

@@ -4,6 +4,7 @@
 // declaration of them. The sets E that may be assumed differ in those of them that are not provided; the lister takes these as
 // unknown, so that all sets are usually looked at in one list of rows. Where that gives up, one of them is made present and then
 // absent: at most twice as many lists as there are sets, each made again in a larger area where the small one is too small.
+#![tactic(auto)]
 mod free;
 mod looking;
 
@@ -22,7 +23,7 @@ const MOST_FREE: u8 = 10;
 const TOO_FREE: u8 = 17;
 
 // Step's answer: the number of the refusal; the one step; that there is none; that there are several.
-#[derive(Drop)]
+#[derive(Clone, Copy)]
 pub enum Stepped {
     Refused(u8),
     One {

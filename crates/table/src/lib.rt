@@ -1,4 +1,5 @@
 // The node table: its kinds, reading and writing it, and check.
+#![tactic(auto)]
 mod kinds;
 mod reading;
 mod writing;
@@ -20,7 +21,7 @@ pub const DEEPEST: usize = 60;
 pub const NO_KIND: u8 = 6;
 
 // What a kind fixes: its children, and its smallest and largest operand.
-#[derive(Drop)]
+#[derive(Clone, Copy)]
 pub struct Row {
     pub children: u8,
     pub least: u8,
@@ -28,7 +29,7 @@ pub struct Row {
 }
 
 // Check's answer: the number of the refusal, or the node count.
-#[derive(Drop)]
+#[derive(Clone, Copy)]
 pub enum Checked {
     Refused(u8),
     Accepted(u16),

@@ -1,4 +1,5 @@
 // The statement text: what reading and writing answer. The definitions and the theorems on them are in specs/ and proofs/.
+#![tactic(auto)]
 ghost use Rattle.std.specs.Prelude.{◌≡◌};
 ghost use Rattle.table.specs.Outcomes.{number_of};
 ghost use Rattle.text.specs.Answers.{answer_outcome};
@@ -7,7 +8,7 @@ ghost use Rattle.text.specs.Answers.{answer_outcome};
 pub const TOO_SHORT: u8 = 13;
 
 // The answer of reading and of writing: the number of the refusal, or how many bytes the buffer begins with.
-#[derive(Drop)]
+#[derive(Clone, Copy)]
 pub enum Answer {
     Refused(u8),
     Written(usize),

@@ -14,7 +14,7 @@ pub const PLACES: usize = 64;
 
 // What stands around a statement that is trimmed: whether it may be started, the try statements of the source, and how
 // many try statements stand around it in the trimmed table.
-#[derive(Drop)]
+#[derive(Clone, Copy)]
 pub struct Around {
     pub started: bool,
     pub tries: usize,

@@ -5,6 +5,7 @@
 // them. A pass looks at each node at most once and does a bounded number of steps there, whatever the depth.
 // Trimming works in an area of its own, which holds as many nodes as a table may have, and touches the caller's buffer only
 // when the table is known to fit.
+#![tactic(auto)]
 mod descent;
 mod marks;
 mod noted;
@@ -29,7 +30,7 @@ const TOO_LARGE: u8 = 12;
 const TOO_SHORT: u8 = 13;
 
 // A trimmed table: its nodes, its length in bytes, and the share of the source that it keeps.
-#[derive(Drop)]
+#[derive(Clone, Copy)]
 pub struct Written {
     pub nodes: u16,
     pub bytes: usize,
@@ -37,7 +38,7 @@ pub struct Written {
 }
 
 // Trim's answer: the number of the refusal, or what the buffer begins with.
-#[derive(Drop)]
+#[derive(Clone, Copy)]
 pub enum Trimmed {
     Refused(u8),
     Accepted(Written),

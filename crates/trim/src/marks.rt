@@ -17,7 +17,7 @@ use reach::codes::CodeSet;
 
 // The exits that are left in a trimmed statement and end outside it, as sets of their levels, bit d for level d: where the
 // statement is only resumed, and where it may be started.
-#[derive(Drop)]
+#[derive(Clone, Copy)]
 pub struct Exits {
     pub resumed: u64,
     pub started: u64,
@@ -25,7 +25,7 @@ pub struct Exits {
 
 // What is found of a statement: the codes of it started, and resumed from labels of R; the exits left in it; whether it is live,
 // that is, some pause of it has its label in R; and the place after its last node.
-#[derive(Drop)]
+#[derive(Clone, Copy)]
 pub struct Marked {
     pub s: CodeSet,
     pub d: CodeSet,

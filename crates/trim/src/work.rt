@@ -18,7 +18,7 @@ pub const HELD: usize = 3072;
 const REFUSED: u8 = 63;
 
 // A trimmed part in the work area: where its nodes begin, its depth, and the signals that its emits and presents name.
-#[derive(Drop)]
+#[derive(Clone, Copy)]
 pub struct Part {
     pub from: usize,
     pub depth: u16,
@@ -26,7 +26,7 @@ pub struct Part {
 }
 
 // Where the trimmed statement stands.
-#[derive(Drop)]
+#[derive(Clone, Copy)]
 pub enum Laid {
     // A node was of no kind.
     Refused,

@@ -1,4 +1,5 @@
 // Writing a table as statement text.
+#![tactic(auto)]
 mod writing;
 
 ghost use Rattle.std.specs.Prelude.{◌≡◌, length};

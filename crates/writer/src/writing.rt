@@ -12,7 +12,7 @@ use table::{DEEPEST, MOST_NODES, kind_of, operand_of, put_bytes};
 use text::Answer;
 
 // What may stand at a place without brackets: a single statement, singles joined by `;`, or any.
-#[derive(Drop)]
+#[derive(Clone, Copy)]
 pub enum Asked {
     Single,
     Chain,
