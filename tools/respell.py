@@ -25,7 +25,9 @@ USE = re.compile(r"^[ \t]*(?:pub |ghost )*use (Rattle\.(\w+)\.[^\s;{]*?)\.?(?:\{
 # A goal that Rattle makes, and so its name.
 MADE = re.compile(r"^\S+ : (?:tie|goal)\.")
 # A lemma whose plain spelling its definition has gets the ending _lem.
-LEMMAS = "last-of number-in in-range parts-of parts-at stands_at list_at is_digit word_count word_number".split()
+LEMMAS = """last-of number-in in-range parts-of parts-at stands_at list_at is_digit word_count word_number given-up emitted-free
+is-nothing crowded-within has-low blank-byte signal-ranged row-steps read-kind read-text as-chain as-single exits-if first-text
+second-text""".split()
 CLASHES = {n: n.replace("-", "_") + "_lem" for n in LEMMAS} | {"code-of": "code_of_reaction"}
 
 
@@ -139,10 +141,14 @@ def main():
     for p, t in texts.items():
         mine = taken(p, t)
         words = set(alone.findall(without_comments(t)))
-        for n in mine:
+        seen = {}
+        for n in sorted(mine & words):
             s = in_snake_case(n)
-            if n in words and s in words and s not in mine:
+            if s in words and s not in mine:
                 bad.append(f"{p}: {n} would meet {s}")
+            if s in seen:
+                bad.append(f"{p}: {n} and {seen[s]} fall together")
+            seen[s] = n
         result[p] = turn_code(t, mine)
     for p in rust:
         t = open(p, encoding="utf-8").read()

@@ -34,6 +34,7 @@ absent_same X r t e h = rw e h
 absent_two : (X : ℕ) (r t u : Request) → Absent X t → Absent X u → Listed r (t ∷ u ∷ []) → Absent X r
 absent_two X r t u h k (inl e) = absent_same X r t e h
 absent_two X r t u h k (inr (inl e)) = absent_same X r u e k
+absent_two X r t u h k (inr (inr x'')) = elim x'' [ ]
 
 -- no list that begins at the start is needed: the first list is empty
 not_started : (X : ℕ) (r t : Request) (ts : List Reaction) → ts ≡ [] → Listed r (cond (some_ends ts) (t ∷ []) []) → Absent X r

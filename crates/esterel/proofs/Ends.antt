@@ -16,6 +16,7 @@ ends_in : (r : Reaction) (ts : List Reaction) → Listed r ts → eqb r.code 0 �
 unfolding some_ends
 ends_in r (t ∷ ts) (inl h) e = or_left _ (ap (λ (z : Reaction). eqb z.code 0) (sym h) ∙ e)
 ends_in r (t ∷ ts) (inr m) e = or_right (eqb t.code 0) (ends_in r ts m e)
+ends_in r [] x'' e = elim x'' [ ]
 
 ends_out : (ts : List Reaction) → some_ends ts ≡ true → (r : Reaction) × Listed r ts × (eqb r.code 0 ≡ true)
 unfolding some_ends
@@ -38,6 +39,7 @@ no_end (t ∷ ts) h r (inl e) z = clash (eqb_zero (ap (λ (u : Reaction). u.code
     eqb_zero : t.code ≡ 0 → eqb t.code 0 ≡ true
     eqb_zero w = ap (λ (k : ℕ). eqb k 0) w
 no_end (t ∷ ts) h r (inr m) z = no_end ts (or_neither (eqb t.code 0) (some_ends ts) h).1 r m z
+no_end [] h r x3 z = elim x3 [ ]
 
 -- where no reaction ends, nothing follows
 follow_none : (ts us : List Reaction) → some_ends ts ≡ false → (r : Reaction) → Listed r (follow ts us) → Listed r ts

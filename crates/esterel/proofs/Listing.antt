@@ -210,6 +210,10 @@ listed_out (loop p) (resumed X) E r h =
 listed_out (try p) x E r h =
     let (t, m, e) = caught_out (list p x E) r (sorted_out r (caught (list p x E)) h) in
     rule.try t.code (recast (ap emitted_of e) refl (ap reached_of e) (listed_out p x E t m)) (ap code_of_reaction e)
+listed_out nothing start E r (inr x5) = elim x5 [ ]
+listed_out (pause l) start E r (inr x6) = elim x6 [ ]
+listed_out (gotopause l) start E r (inr x7) = elim x7 [ ]
+listed_out (exit d) start E r (inr x8) = elim x8 [ ]
 
 pub listed_in : (p : Statement) (x : State) {E O k L : ℕ} → Derives p x E O k L → Listed (reaction O k L) (list p x E)
 unfolding list
@@ -288,6 +292,10 @@ listed_in (loop p) (resumed X) {E} {O} {k} {L} (rule.loop O₁ O₂ a b h e) =
 listed_in (try p) x {E} {O} {k} {L} (rule.try k₁ r e) =
     sorted_in (reaction O k L) (caught (list p x E))
     (subst (λ (z : ℕ). Listed (reaction O z L) (caught (list p x E))) (sym e) (caught_in (list p x E) (reaction O k₁ L) (listed_in p x r)))
+listed_in nothing (resumed X) {E = E} {O = O} {k = k} {L = L} x4 = elim x4 [ ]
+listed_in (gotopause l) (resumed X) {E = E} {O = O} {k = k} {L = L} x5 = elim x5 [ ]
+listed_in (emit S) (resumed X) {E = E} {O = O} {k = k} {L = L} x6 = elim x6 [ ]
+listed_in (exit d) (resumed X) {E = E} {O = O} {k = k} {L = L} x7 = elim x7 [ ]
 
 pub list_rising : (p : Statement) (x : State) (E : ℕ) → Rising (list p x E)
 unfolding list

@@ -20,6 +20,7 @@ pub some_in : {A : Type 0} (f : A → Bool) (a : A) (l : List A) → Listed a l 
 unfolding some
 some_in f a (b ∷ l) (inl e) h = or_left _ (ap f (sym e) ∙ h)
 some_in f a (b ∷ l) (inr m) h = or_right (f b) (some_in f a l m h)
+some_in {A = A} f a [] x'' h = elim x'' [ ]
 
 pub some_out : {A : Type 0} (f : A → Bool) (l : List A) → some f l ≡ true → (a : A) × Listed a l × (f a ≡ true)
 unfolding some

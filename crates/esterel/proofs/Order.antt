@@ -17,6 +17,7 @@ use Rattle.esterel.specs.Listing.{Listed, Before, Rising, before, insert, sorted
 pub append_left : {A : Type 0} (r : A) (ts us : List A) → Listed r ts → Listed r (ts ++ us)
 append_left r (t ∷ ts) us (inl e) = inl e
 append_left r (t ∷ ts) us (inr h) = inr (append_left r ts us h)
+append_left {A = A} r [] us x' = elim x' [ ]
 
 pub append_right : {A : Type 0} (r : A) (ts us : List A) → Listed r us → Listed r (ts ++ us)
 append_right r [] us h = h
@@ -35,6 +36,7 @@ pub each_in : (r t : Reaction) (ts : List Reaction) (f : Reaction → List React
 unfolding each
 each_in r t (u ∷ us) f (inl e) h = append_left r (f u) (each us f) (rw e at h)
 each_in r t (u ∷ us) f (inr k) h = append_right r (f u) (each us f) (each_in r t us f k h)
+each_in r t [] f x'' h = elim x'' [ ]
 
 pub each_out : (r : Reaction) (ts : List Reaction) (f : Reaction → List Reaction) → Listed r (each ts f) → (t : Reaction) × Listed t ts × Listed r (f t)
 unfolding each
@@ -43,6 +45,7 @@ each_out r (u ∷ us) f h = go (λ k. each_out r us f k) (append_cases r (f u) (
     go : (Listed r (each us f) → (t : Reaction) × Listed t us × Listed r (f t)) → Listed r (f u) ⊎ Listed r (each us f) → (t : Reaction) × Listed t (u ∷ us) × Listed r (f t)
     go ih (inl k) = (u, inl refl, k)
     go ih (inr k) = let (t, m, n) = ih k in (t, inr m, n)
+each_out r [] f h = elim h [ ]
 
 pub only_if_in : (r : Reaction) (b : Bool) (ts : List Reaction) → b ≡ true → Listed r ts → Listed r (only_if b ts)
 only_if_in r true ts e h = h
@@ -54,6 +57,7 @@ only_if_out r false ts h = absurd h
 
 pub one_out : (r t : Reaction) → Listed r (one t) → r ≡ t
 one_out r t (inl e) = e
+one_out r t (inr x') = elim x' [ ]
 
 -- ---- the order
 pub before_yes : (r t : Reaction) → before r t ≡ true → Before r t
@@ -140,6 +144,7 @@ insert_out u r (t ∷ ts) m =
     first : Listed u (r ∷ t ∷ ts) → (u ≡ r) ⊎ Listed u (t ∷ ts)
     first (inl e) = inl e
     first (inr h) = inr h
+insert_out u r [] (inr x'') = elim x'' [ ]
 
     third : (u ≡ r) ⊎ Listed u ts → (u ≡ r) ⊎ Listed u (t ∷ ts)
     third (inl e) = inl e
@@ -167,6 +172,7 @@ insert_old u r (t ∷ ts) h =
     go : (Listed u ts → Listed u (insert r ts)) → Listed u (t ∷ ts) → Listed u (t ∷ insert r ts)
     go ih (inl e) = inl e
     go ih (inr k) = inr (ih k)
+insert_old u r [] h = elim h [ ]
 
 pub insert_rising : (r : Reaction) (ts : List Reaction) → Rising ts → Rising (insert r ts)
 unfolding insert
@@ -198,6 +204,7 @@ pub sorted_in : (u : Reaction) (ts : List Reaction) → Listed u ts → Listed u
 unfolding sorted
 sorted_in u (t ∷ ts) (inl e) = rw e (insert_new t (sorted ts))
 sorted_in u (t ∷ ts) (inr h) = insert_old u t (sorted ts) (sorted_in u ts h)
+sorted_in u [] x' = elim x' [ ]
 
 pub sorted_rising : (ts : List Reaction) → Rising (sorted ts)
 unfolding sorted

@@ -39,6 +39,7 @@ all_each f g (more {w = w} a h) = all_append (g w a) (all_each f g h)
 pub all_out : {P : Row → Type 0} {ws : List Row} → All P ws → (w : Row) → Listed w ws → P w
 all_out {P} (more a h) w (inl e) = subst P (sym e) a
 all_out (more a h) w (inr m) = all_out h w m
+all_out {P = P} none w x3 = elim x3 [ ]
 
 all_insert : {P : Row → Type 0} {vs : List Row} (w : Row) → P w → All P vs → All P (insert_row w vs)
 unfolding insert_row

@@ -45,6 +45,10 @@ agrees (parallel p q) X Y f (rule.par O₁ k₁ L₁ O₂ k₂ L₂ a b e g h) =
 agrees (loop p) X Y f (rule.no_loop r h) = rule.no_loop (agrees p X Y f r) h
 agrees (loop p) X Y f (rule.loop O₁ O₂ a b h e) = rule.loop O₁ O₂ (agrees p X Y f a) b h e
 agrees (try p) X Y f (rule.try k₁ r e) = rule.try k₁ (agrees p X Y f r) e
+agrees Rattle.esterel.specs.Statement.nothing X Y f {E = E} {O = O} {k = k} {L = L} x'' = elim x'' [ ]
+agrees (Rattle.esterel.specs.Statement.gotopause _) X Y f {E = E} {O = O} {k = k} {L = L} x4 = elim x4 [ ]
+agrees (Rattle.esterel.specs.Statement.emit _) X Y f {E = E} {O = O} {k = k} {L = L} x5 = elim x5 [ ]
+agrees (Rattle.esterel.specs.Statement.exit _) X Y f {E = E} {O = O} {k = k} {L = L} x6 = elim x6 [ ]
 
 pub derives_agree : (p : Statement) (X Y : ℕ) → AgreeOn (pauses p) X Y → {E O k L : ℕ} → Derives p (resumed X) E O k L ↔ Derives p (resumed Y) E O k L
 derives_agree p X Y f = (agrees p X Y f, agrees p Y X (λ l h. sym (f l h)))
@@ -71,3 +75,7 @@ derives_apart (parallel p q) X f (rule.par O₁ k₁ L₁ O₂ k₂ L₂ a b e g
 derives_apart (loop p) X f (rule.no_loop r h) = derives_apart p X f r
 derives_apart (loop p) X f (rule.loop O₁ O₂ a b h e) = derives_apart p X f a
 derives_apart (try p) X f (rule.try k₁ r e) = derives_apart p X f r
+derives_apart Rattle.esterel.specs.Statement.nothing X f {E = E} {O = O} {k = k} {L = L} x'' = elim x'' [ ]
+derives_apart (Rattle.esterel.specs.Statement.gotopause _) X f {E = E} {O = O} {k = k} {L = L} x4 = elim x4 [ ]
+derives_apart (Rattle.esterel.specs.Statement.emit _) X f {E = E} {O = O} {k = k} {L = L} x5 = elim x5 [ ]
+derives_apart (Rattle.esterel.specs.Statement.exit _) X f {E = E} {O = O} {k = k} {L = L} x6 = elim x6 [ ]

@@ -91,6 +91,7 @@ insert_out u w (v ∷ vs) m =
     later : (u ≡ w) ⊎ Listed u vs → (u ≡ w) ⊎ Listed u (v ∷ vs)
     later (inl e) = inl e
     later (inr h) = inr (inr h)
+insert_out u w [] (inr x'') = elim x'' [ ]
 
     second : (Listed u (insert_row w vs) → (u ≡ w) ⊎ Listed u vs) → Listed u (v ∷ insert_row w vs) → (u ≡ w) ⊎ Listed u (v ∷ vs)
     second ih (inl e) = inr (inl e)
@@ -114,6 +115,7 @@ insert_old u w (v ∷ vs) h =
     go : (Listed u vs → Listed u (insert_row w vs)) → Listed u (v ∷ vs) → Listed u (v ∷ insert_row w vs)
     go ih (inl e) = inl e
     go ih (inr k) = inr (ih k)
+insert_old u w [] h = elim h [ ]
 
 pub insert_rising : (w : Row) (vs : List Row) → RisingRows vs → RisingRows (insert_row w vs)
 unfolding insert_row
@@ -145,6 +147,7 @@ pub sorted_rows_in : (u : Row) (ws : List Row) → Listed u ws → Listed u (sor
 unfolding sorted_rows
 sorted_rows_in u (w ∷ ws) (inl e) = subst (λ z. Listed z (insert_row w (sorted_rows ws))) (sym e) (insert_new w (sorted_rows ws))
 sorted_rows_in u (w ∷ ws) (inr h) = insert_old u w (sorted_rows ws) (sorted_rows_in u ws h)
+sorted_rows_in u [] x' = elim x' [ ]
 
 pub sorted_rows_rising : (ws : List Row) → RisingRows (sorted_rows ws)
 unfolding sorted_rows

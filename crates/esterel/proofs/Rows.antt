@@ -324,6 +324,7 @@ under_in F (v ∷ ws) r w (inl e) g =
     append_left r (only_if (holds v.when F) (one v.reacts)) (under F ws)
     (subst (λ z. Listed r (only_if (holds z.when F) (one z.reacts))) e (rw g.held (inl (sym g.same))))
 under_in F (v ∷ ws) r w (inr m) g = append_right r (only_if (holds v.when F) (one v.reacts)) (under F ws) (under_in F ws r w m g)
+under_in F [] r w x'' g = elim x'' [ ]
 
 pub lists_sorted_rows : {F : ℕ} {ws : List Row} {ts : List Reaction} → Lists F ws ts → Lists F (sorted_rows ws) ts
 lists_sorted_rows {F} {ws} l = record {

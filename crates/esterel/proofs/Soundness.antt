@@ -254,6 +254,10 @@ sound_resumed R (loop p) X w v {k = k} {L = L} (rule.loop O₁ O₂ a b h e) =
     (among_followed_right (d R p) (minus_zero (s p)) k L (sound_resumed R p X w v a) (among_minus_zero (s p) k L h (sound_start p w b)))
 sound_resumed R (try p) X w v {L = L} (rule.try k₁ r e) =
     subst (λ (z : ℕ). Among (through_try (d R p)) z L) (sym e) (among_through_try (d R p) k₁ L (sound_resumed R p X w v r))
+sound_resumed R nothing X w v {E = E} {O = O} {k = k} {L = L} x3 = elim x3 [ ]
+sound_resumed R (gotopause _) X w v {E = E} {O = O} {k = k} {L = L} x5 = elim x5 [ ]
+sound_resumed R (emit _) X w v {E = E} {O = O} {k = k} {L = L} x6 = elim x6 [ ]
+sound_resumed R (exit _) X w v {E = E} {O = O} {k = k} {L = L} x7 = elim x7 [ ]
 
 -- ---- Either state
 

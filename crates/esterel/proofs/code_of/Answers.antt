@@ -1,0 +1,8 @@
+-- `esterel::code_of` meets its contract.
+use borrow.Author.Rules.{rules}
+use Rattle.esterel.specs.Codes.{code_of}
+use Rattle.esterel.proofs.code_of.Goals as goal
+
+pub returns : goal.returns
+unfolding code_of
+returns c = search rules
