@@ -27,7 +27,7 @@ pub record Entries (t : List ℕ) : Type 0 where
   pub trim : (room : ℕ) → AcceptedByZero (trim_of t room)
   pub list : (E mark X o k l : ℕ) → AcceptedByZero (listing_outcome (list_of t E mark X o k l))
   pub step : (I mark X : ℕ) → AcceptedByZero (step_of t I mark X)
-  pub read_text : (room : ℕ) → AcceptedByZero (read_of t room)
+  pub read_text_lem : (room : ℕ) → AcceptedByZero (read_of t room)
   pub write_text : (room : ℕ) → AcceptedByZero (write_of t room)
 
 pub zero_accepts : (t : List ℕ) → Entries t
@@ -38,6 +38,6 @@ zero_accepts t = record {
   trim = trim_accepted t;
   list = λ E mark X o k l z. let (ts, e) = zero_listed t E mark X o k l z in (length ts ∷ [], ap listing_outcome e);
   step = zero_stepped t;
-  read_text = zero_read t;
+  read_text_lem = zero_read t;
   write_text = zero_written t;
 }

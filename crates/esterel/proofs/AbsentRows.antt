@@ -38,9 +38,9 @@ twice : (S : ℕ) {v w : CappedRows} → Empty v → Empty w → Empty (twice_ro
 unfolding twice_rows change_rows hide_rows collect_rows cap_rows sorted_rows each_row
 twice S e f = joined (ap (change_rows (hide_rows S)) e) f
 
-given_up : (X : ℕ) (p : Statement) → Apart X (pauses p) → Empty (given_up (resumed X) p)
+given_up_lem : (X : ℕ) (p : Statement) → Apart X (pauses p) → Empty (given_up (resumed X) p)
 unfolding given_up
-given_up X p h = ap (λ b. cond b (some []) none) (apart_test X (pauses p) h)
+given_up_lem X p h = ap (λ b. cond b (some []) none) (apart_test X (pauses p) h)
 
 pub absent_rows : (M : ℕ) (p : Statement) (X E U : ℕ) → Apart X (pauses p) → capped_rows M p (resumed X) E U ≡ some []
 unfolding capped_rows pauses change_rows collect_rows cap_rows sorted_rows each_row then local_rows caught_rows beside_rows
@@ -54,7 +54,7 @@ absent_rows M (signal S p) X E U h =
     let exact = twice_rows S (capped_rows M p (resumed X) (E union only S) 0) (capped_rows M p (resumed X) (E without S) 0) in
     by_cond Empty (names S p) (otherwise (cond (has M S) once none) (cond (eqb U 0) exact (given_up (resumed X) p))) (capped_rows M p (resumed X) E U)
     (λ n. tried (has M S) (ap (change_rows (local_rows S (slot_of M S))) (absent_rows M p X E (U union only S) h))
-    (by_cond Empty (eqb U 0) exact (given_up (resumed X) p) (λ e. twice S (absent_rows M p X (E union only S) 0 h) (absent_rows M p X (E without S) 0 h)) (λ e. given_up X p h)))
+    (by_cond Empty (eqb U 0) exact (given_up (resumed X) p) (λ e. twice S (absent_rows M p X (E union only S) 0 h) (absent_rows M p X (E without S) 0 h)) (λ e. given_up_lem X p h)))
     (λ n. absent_rows M p X E U h)
 absent_rows M (present S p q) X E U h =
     let (a, b) = apart_union⁻ X (pauses p) (pauses q) h in joined (absent_rows M p X E U a) (absent_rows M q X E U b)

@@ -13,7 +13,7 @@ use Rattle.esterel.specs.Statement.{Statement, nothing, pause, gotopause, emit, 
 use Rattle.esterel.specs.Reactions.{State, reached_together, Derives, Reaction, Reacts}
 use Rattle.esterel.specs.Reactions as rule
 use Rattle.esterel.specs.Stepping.{emitted_free}
-use Rattle.esterel.proofs.Emitting.{emitted_free}
+use Rattle.esterel.proofs.Emitting.{emitted_free_lem}
 use Rattle.esterel.proofs.Exits.{valid_exits, code_within}
 use Rattle.esterel.proofs.Validity.{valid_levels}
 
@@ -95,7 +95,7 @@ unfolding Reacts
 reaction_narrow p v x E r h =
     let k = code_within 0 p x (valid_levels 0 p v) (valid_exits 0 p v) h in
     record {
-      emitted = fits 32 r.emitted (λ S m. valid_free 0 p v S (emitted_free p h S m));
+      emitted = fits 32 r.emitted (λ S m. valid_free 0 p v S (emitted_free_lem p h S m));
       code = omega arith;
       reached = fits 64 r.reached (labels_small 0 p v h);
     }

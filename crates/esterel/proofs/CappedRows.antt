@@ -77,11 +77,11 @@ twice M S p x E {v} a b =
         (λ r m. sorted_in r (hide S (list p x (E union only S)) ++ list p x (E without S)) (append_left r (hide S (list p x (E union only S))) (list p x (E without S)) m)))
 
 -- not at all, where signals are unknown
-given_up : (M S : ℕ) (p : Statement) (x : State) (E U : ℕ) → Within U M → Due (signal S p) x E U
+given_up_lem : (M S : ℕ) (p : Statement) (x : State) (E U : ℕ) → Within U M → Due (signal S p) x E U
     → Answers M (Due (signal S p) x E U) E U (list (signal S p) x) (Below (signal S p) x) (given_up x p)
 unfolding given_up list needs rows_of pauses
-given_up M S p start E U i d = wants d
-given_up M S p (resumed X) E U i d =
+given_up_lem M S p start E U i d = wants d
+given_up_lem M S p (resumed X) E U i d =
     by_cond (Answers M (Due (signal S p) (resumed X) E U) E U (list (signal S p) (resumed X)) (Below (signal S p) (resumed X))) (eqb (X intersect pauses p) 0) (some []) none absent (λ e. wants d)
   where
     absent : eqb (X intersect pauses p) 0 ≡ true → Answers M (Due (signal S p) (resumed X) E U) E U (list (signal S p) (resumed X)) (Below (signal S p) (resumed X)) (some [])
@@ -104,7 +104,7 @@ signal_any M S p x E U v w u t i a b c d =
     exact =
         by_cond (Answers M (Due (signal S p) x E U) E U (list (signal S p) x) (Below (signal S p) x)) (eqb U 0) (twice_rows S w u) (given_up x p)
         (λ e. subst (λ (z : ℕ). Answers M (Due (signal S p) x E z) E z (list (signal S p) x) (Below (signal S p) x) (twice_rows S w u)) (sym (eqb_equal U 0 e)) (twice M S p x E b c))
-        (λ e. given_up M S p x E U i (λ z. clash (ap (λ (y : ℕ). eqb y 0) z) e))
+        (λ e. given_up_lem M S p x E U i (λ z. clash (ap (λ (y : ℕ). eqb y 0) z) e))
 
 -- ---- all kinds
 answered : (M : ℕ) (p : Statement) (x : State) (E U : ℕ) → Within U M → Answered M p x E U (capped_rows M p x E U)

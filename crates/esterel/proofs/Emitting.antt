@@ -84,27 +84,27 @@ emitted_fits w {p} {x} {E} {O} h d = fits w O (λ y k. go y (emitted_assumed d y
 
 -- ---- what an emit outside a declaration names
 
-pub emitted_free : (p : Statement) {x : State} {E O k L : ℕ} → Derives p x E O k L → Within O (emitted_free p)
+pub emitted_free_lem : (p : Statement) {x : State} {E O k L : ℕ} → Derives p x E O k L → Within O (emitted_free p)
 unfolding emitted_free
-emitted_free nothing {O = O} (rule.nothing a b c) = none O 0 a
-emitted_free (pause l) {O = O} (rule.pause a b c) = none O 0 a
-emitted_free (pause l) {O = O} (rule.resume h a b c) = none O 0 a
-emitted_free (gotopause l) {O = O} (rule.goto a b c) = none O 0 a
-emitted_free (emit S) {O = O} (rule.emit h a b c) = λ x m. sym (ap (λ (z : ℕ). has z x) a) ∙ m
-emitted_free (exit d) {O = O} (rule.exit a b c) = none O 0 a
-emitted_free (signal S p) {O = O} (rule.signal+ O₁ r h e) = kept O O₁ (emitted_free p) S e (emitted_free p r)
-emitted_free (signal S p) {E = E} {O = O} (rule.signal- r) = absent O E (emitted_free p) S (emitted_assumed r) (emitted_free p r)
-emitted_free (present S p q) {O = O} (rule.present h r) = wider_left O (emitted_free p) (emitted_free q) (emitted_free p r)
-emitted_free (present S p q) {O = O} (rule.absent h r) = wider_right O (emitted_free p) (emitted_free q) (emitted_free q r)
-emitted_free (present S p q) {O = O} (rule.present_left r) = wider_left O (emitted_free p) (emitted_free q) (emitted_free p r)
-emitted_free (present S p q) {O = O} (rule.present_right r) = wider_right O (emitted_free p) (emitted_free q) (emitted_free q r)
-emitted_free (sequence p q) {O = O} (rule.seq O₁ O₂ a b e) = parts O O₁ O₂ (emitted_free p) (emitted_free q) e (emitted_free p a) (emitted_free q b)
-emitted_free (sequence p q) {O = O} (rule.seq_left r h) = wider_left O (emitted_free p) (emitted_free q) (emitted_free p r)
-emitted_free (sequence p q) {O = O} (rule.seq_right r) = wider_right O (emitted_free p) (emitted_free q) (emitted_free q r)
-emitted_free (parallel p q) {O = O} (rule.par O₁ k₁ L₁ O₂ k₂ L₂ a b e f g) =
-    parts O O₁ O₂ (emitted_free p) (emitted_free q) e (emitted_free p a) (emitted_free q b)
-emitted_free (parallel p q) {O = O} (rule.par_left r h) = wider_left O (emitted_free p) (emitted_free q) (emitted_free p r)
-emitted_free (parallel p q) {O = O} (rule.par_right r h) = wider_right O (emitted_free p) (emitted_free q) (emitted_free q r)
-emitted_free (loop p) (rule.no_loop r h) = emitted_free p r
-emitted_free (loop p) {O = O} (rule.loop O₁ O₂ a b h e) = both O O₁ O₂ (emitted_free p) e (emitted_free p a) (emitted_free p b)
-emitted_free (try p) (rule.try k₁ r e) = emitted_free p r
+emitted_free_lem nothing {O = O} (rule.nothing a b c) = none O 0 a
+emitted_free_lem (pause l) {O = O} (rule.pause a b c) = none O 0 a
+emitted_free_lem (pause l) {O = O} (rule.resume h a b c) = none O 0 a
+emitted_free_lem (gotopause l) {O = O} (rule.goto a b c) = none O 0 a
+emitted_free_lem (emit S) {O = O} (rule.emit h a b c) = λ x m. sym (ap (λ (z : ℕ). has z x) a) ∙ m
+emitted_free_lem (exit d) {O = O} (rule.exit a b c) = none O 0 a
+emitted_free_lem (signal S p) {O = O} (rule.signal+ O₁ r h e) = kept O O₁ (emitted_free p) S e (emitted_free_lem p r)
+emitted_free_lem (signal S p) {E = E} {O = O} (rule.signal- r) = absent O E (emitted_free p) S (emitted_assumed r) (emitted_free_lem p r)
+emitted_free_lem (present S p q) {O = O} (rule.present h r) = wider_left O (emitted_free p) (emitted_free q) (emitted_free_lem p r)
+emitted_free_lem (present S p q) {O = O} (rule.absent h r) = wider_right O (emitted_free p) (emitted_free q) (emitted_free_lem q r)
+emitted_free_lem (present S p q) {O = O} (rule.present_left r) = wider_left O (emitted_free p) (emitted_free q) (emitted_free_lem p r)
+emitted_free_lem (present S p q) {O = O} (rule.present_right r) = wider_right O (emitted_free p) (emitted_free q) (emitted_free_lem q r)
+emitted_free_lem (sequence p q) {O = O} (rule.seq O₁ O₂ a b e) = parts O O₁ O₂ (emitted_free p) (emitted_free q) e (emitted_free_lem p a) (emitted_free_lem q b)
+emitted_free_lem (sequence p q) {O = O} (rule.seq_left r h) = wider_left O (emitted_free p) (emitted_free q) (emitted_free_lem p r)
+emitted_free_lem (sequence p q) {O = O} (rule.seq_right r) = wider_right O (emitted_free p) (emitted_free q) (emitted_free_lem q r)
+emitted_free_lem (parallel p q) {O = O} (rule.par O₁ k₁ L₁ O₂ k₂ L₂ a b e f g) =
+    parts O O₁ O₂ (emitted_free p) (emitted_free q) e (emitted_free_lem p a) (emitted_free_lem q b)
+emitted_free_lem (parallel p q) {O = O} (rule.par_left r h) = wider_left O (emitted_free p) (emitted_free q) (emitted_free_lem p r)
+emitted_free_lem (parallel p q) {O = O} (rule.par_right r h) = wider_right O (emitted_free p) (emitted_free q) (emitted_free_lem q r)
+emitted_free_lem (loop p) (rule.no_loop r h) = emitted_free_lem p r
+emitted_free_lem (loop p) {O = O} (rule.loop O₁ O₂ a b h e) = both O O₁ O₂ (emitted_free p) e (emitted_free_lem p a) (emitted_free_lem p b)
+emitted_free_lem (try p) (rule.try k₁ r e) = emitted_free_lem p r

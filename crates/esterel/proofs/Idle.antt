@@ -10,7 +10,7 @@ use Rattle.esterel.specs.Statement.{Statement, nothing, pause, gotopause, emit, 
 use Rattle.esterel.specs.Codes.{Codes, none, just_ended, join, minus_zero, through_try, s, d}
 use Rattle.esterel.specs.Trimming.{is_nothing, join_parts, names, ends_at, shift_exits, can_end, trim_loop, trim_signal, trim_present, trim_try, trim}
 use Rattle.esterel.proofs.Codes.{join_none, none_through}
-use Rattle.esterel.proofs.Trimming.{is_nothing, kept_pauses}
+use Rattle.esterel.proofs.Trimming.{is_nothing_lem, kept_pauses}
 
 pub idle : (R : ℕ) (p : Statement) → Apart R (pauses p) → (trim R false p ≡ nothing) × (d R p ≡ none)
 unfolding trim d pauses can_end trim_signal trim_present trim_loop trim_try join_parts is_nothing names ends_at shift_exits none
@@ -49,4 +49,4 @@ ending_something R p h = not_true (is_nothing (trim R false p)) (λ e. clash h (
   where
     no_pause : is_nothing (trim R false p) ≡ true → Apart R (pauses p)
     no_pause e l k =
-        not_true (has (pauses p) l) (λ m. clash ((kept_pauses R p false).1 l k m) (ap (λ (t : Statement). has (pauses t) l) (is_nothing (trim R false p) e) ∙ has_empty l))
+        not_true (has (pauses p) l) (λ m. clash ((kept_pauses R p false).1 l k m) (ap (λ (t : Statement). has (pauses t) l) (is_nothing_lem (trim R false p) e) ∙ has_empty l))

@@ -100,18 +100,18 @@ within_crowded (suc n) p x E h =
     go f (inl k) = own (ltb-true 64 (length (list p x E)) k)
     go f (inr k) = let (r, m, e) = some_out (CrowdedRequest n) (needs p x E) k in child r m (f r e)
 
-crowded_within : (n : ℕ) {p : Statement} {x : State} {E : ℕ} → depth p ≤ n → Crowded p x E → crowded_within n p x E ≡ true
+crowded_within_lem : (n : ℕ) {p : Statement} {x : State} {E : ℕ} → depth p ≤ n → Crowded p x E → crowded_within n p x E ≡ true
 unfolding crowded_within
-crowded_within zero {p} {x} {E} l (own h) = lt-ltb 64 (length (list p x E)) h
-crowded_within zero {p} {x} {E} l (child r m c) = absurd (let k = needs_shallower p x E r m in omega arith)
-crowded_within (suc n) {p} {x} {E} l (own h) = or_left _ (lt-ltb 64 (length (list p x E)) h)
-crowded_within (suc n) {p} {x} {E} l (child r m c) =
+crowded_within_lem zero {p} {x} {E} l (own h) = lt-ltb 64 (length (list p x E)) h
+crowded_within_lem zero {p} {x} {E} l (child r m c) = absurd (let k = needs_shallower p x E r m in omega arith)
+crowded_within_lem (suc n) {p} {x} {E} l (own h) = or_left _ (lt-ltb 64 (length (list p x E)) h)
+crowded_within_lem (suc n) {p} {x} {E} l (child r m c) =
     let k = needs_shallower p x E r m in
-    or_right (ltb 64 (length (list p x E))) (some_in (CrowdedRequest n) r (needs p x E) m (crowded_within n (omega arith) c))
+    or_right (ltb 64 (length (list p x E))) (some_in (CrowdedRequest n) r (needs p x E) m (crowded_within_lem n (omega arith) c))
 
 pub crowded_iff : (p : Statement) (x : State) (E : ℕ) → (crowded p x E ≡ true) ↔ Crowded p x E
 unfolding crowded
-crowded_iff p x E = (within_crowded (depth p) p x E, λ c. crowded_within (depth p) (omega arith) c)
+crowded_iff p x E = (within_crowded (depth p) p x E, λ c. crowded_within_lem (depth p) (omega arith) c)
 
 -- the test, one statement down: what a lister that counts the lists of the children has to find
 pub crowded_step : (p : Statement) (x : State) (E : ℕ)

@@ -73,9 +73,9 @@ test S = present S (pause (suc S)) nothing
 unfoldable pub tests : Statement
 tests = parallel (test 0) (parallel (test 1) (parallel (test 2) (parallel (test 3) (parallel (test 4) (parallel (test 5) (test 6))))))
 
-pub given_up : capped_rows 127 tests start 0 127 ≡ none
+pub given_up_lem : capped_rows 127 tests start 0 127 ≡ none
 unfolding count test tests capped_rows join_rows collect_rows cap_rows sorted_rows insert_row before_row less_or each_row given then tested together_rows pair reached_together always both clashes has only ◌union◌ ◌intersect◌
-given_up = refl
+given_up_lem = refl
 
 pub not_crowded : crowded tests start 0 ≡ false
 unfolding test tests crowded crowded_within needs Some-of list sorted insert before each together pair reached_together depth has only ◌union◌ ◌intersect◌

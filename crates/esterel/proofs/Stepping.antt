@@ -17,7 +17,7 @@ use Rattle.esterel.specs.Runs.{Step}
 use Rattle.esterel.specs.Listing.{Listed, list, listing}
 use Rattle.esterel.specs.Stepping.{StepFrom, Answer, one, none, several, Says, IsAnswer, emitted_free, made_of, signals, looked_at, same, combined, answer_under, answer_among, stepping}
 use Rattle.esterel.specs.inner.Rows.{Agree}
-use Rattle.esterel.proofs.Emitting.{emitted_free}
+use Rattle.esterel.proofs.Emitting.{emitted_free_lem}
 use Rattle.esterel.proofs.Order.{append_left, append_right, append_cases, same_reaction}
 use Rattle.esterel.proofs.Listing.{list_is_listing}
 
@@ -187,7 +187,7 @@ FreeSignals p = (S : ℕ) → has (emitted_free p) S ≡ true → S < signals
 
 pub step_within : (p : Statement) (x : State) (I : ℕ) (t : Step) → StepFrom p x I t → Within t.reaction.emitted (emitted_free p)
 unfolding Reacts
-step_within p x I t h = emitted_free p h.reacts
+step_within p x I t h = emitted_free_lem p h.reacts
 
 pub step_agrees : (p : Statement) (x : State) (I : ℕ) (t : Step) → StepFrom p x I t → Agree (emitted_free p minus I) I t.assumed
 step_agrees p x I t h S n = go (has I S) refl

@@ -21,19 +21,19 @@ use Rattle.esterel.proofs.Levels.{exit_not_resumed, pauses_shift, lowered, lower
 use Rattle.esterel.proofs.Unnamed.{undeclared, undeclared⁻}
 
 -- ---- a fact about what trimming makes, from the fact about each thing that it can be
-pub is_nothing : (p : Statement) → is_nothing p ≡ true → p ≡ nothing
+pub is_nothing_lem : (p : Statement) → is_nothing p ≡ true → p ≡ nothing
 unfolding is_nothing
-is_nothing nothing h = refl
-is_nothing (pause l) h = clash h refl
-is_nothing (gotopause l) h = clash h refl
-is_nothing (emit S) h = clash h refl
-is_nothing (exit e) h = clash h refl
-is_nothing (signal S p) h = clash h refl
-is_nothing (present S p q) h = clash h refl
-is_nothing (sequence p q) h = clash h refl
-is_nothing (parallel p q) h = clash h refl
-is_nothing (loop p) h = clash h refl
-is_nothing (try p) h = clash h refl
+is_nothing_lem nothing h = refl
+is_nothing_lem (pause l) h = clash h refl
+is_nothing_lem (gotopause l) h = clash h refl
+is_nothing_lem (emit S) h = clash h refl
+is_nothing_lem (exit e) h = clash h refl
+is_nothing_lem (signal S p) h = clash h refl
+is_nothing_lem (present S p q) h = clash h refl
+is_nothing_lem (sequence p q) h = clash h refl
+is_nothing_lem (parallel p q) h = clash h refl
+is_nothing_lem (loop p) h = clash h refl
+is_nothing_lem (try p) h = clash h refl
 
 pub by_leaf {ℓ} : (P : Statement → Type ℓ) (kept : Bool) (p : Statement) → P p → P nothing → P (cond kept p nothing)
 by_leaf P kept p f g = by_cond P kept p nothing (λ e. f) (λ e. g)
@@ -42,15 +42,15 @@ pub by_join {ℓ} : (P : Statement → Type ℓ) (f : Statement → Statement �
     → (p ≡ nothing → P q) → (q ≡ nothing → P p) → P (f p q) → P (join_parts f p q)
 unfolding join_parts
 by_join P f p q g h k =
-    by_cond P (is_nothing p) q (cond (is_nothing q) p (f p q)) (λ e. g (is_nothing p e))
-    (λ e. by_cond P (is_nothing q) p (f p q) (λ i. h (is_nothing q i)) (λ i. k))
+    by_cond P (is_nothing p) q (cond (is_nothing q) p (f p q)) (λ e. g (is_nothing_lem p e))
+    (λ e. by_cond P (is_nothing q) p (f p q) (λ i. h (is_nothing_lem q i)) (λ i. k))
 
 pub join_first : (f : Statement → Statement → Statement) (p q : Statement) → is_nothing q ≡ true → join_parts f p q ≡ p
 unfolding join_parts
 join_first f p q h = go (is_nothing p) refl
   where
     go : (x : Bool) → is_nothing p ≡ x → cond x q (cond (is_nothing q) p (f p q)) ≡ p
-    go true e = is_nothing q h ∙ sym (is_nothing p e)
+    go true e = is_nothing_lem q h ∙ sym (is_nothing_lem p e)
     go false e = rw h
 
 pub join_both : (f : Statement → Statement → Statement) (p q : Statement) → is_nothing p ≡ false → is_nothing q ≡ false → join_parts f p q ≡ f p q
@@ -67,7 +67,7 @@ pub by_present {ℓ} : (P : Statement → Type ℓ) (ends : Bool) (p q : Stateme
     → P (trim_present ends p q)
 unfolding trim_present
 by_present P ends p q f g h =
-    by_cond P (is_nothing q) p (cond (not ends) (join_parts sequence p q) (sequence p (behind_exit q))) (λ e. f (is_nothing q e))
+    by_cond P (is_nothing q) p (cond (not ends) (join_parts sequence p q) (sequence p (behind_exit q))) (λ e. f (is_nothing_lem q e))
     (λ e. go ends g (λ i. h i e))
   where
     go : (ends : Bool) → (ends ≡ false → P (join_parts sequence p q)) → (ends ≡ true → P (sequence p (behind_exit q)))

@@ -17,7 +17,7 @@ use Rattle.esterel.specs.Listing.{nesting}
 use Rattle.table.specs.Reading.{kind_of_node, operand_of}
 use Rattle.table.specs.inner.Places.{Placed, placed, place_one, place_two}
 use Rattle.lister.specs.inner.Notes.{packed_note, from_of, behind_of, nest_of, labels_noted, nested_once, place_at, part_at, ReadWhole, EndsFrom, PausesFrom}
-use Rattle.lister.proofs.Nodes.{One, Two, before_end, not_known, is_nothing, is_pause, is_gotopause, is_emit, is_exit, is_signal, is_present, is_sequence, is_parallel, is_loop, is_try}
+use Rattle.lister.proofs.Nodes.{One, Two, before_end, not_known, is_nothing_lem, is_pause, is_gotopause, is_emit, is_exit, is_signal, is_present, is_sequence, is_parallel, is_loop, is_try}
 use Rattle.lister.proofs.Fields.{from_note, behind_note, nest_note, note_split, once_more, once_too_many}
 use Rattle.list.specs.inner.Notes.{pauses_in, labels_in, onward, pauses_from, labels_from, counted_note, NoteRoom, NotedFrom, Splits, SplitFrom, NotesFrom, UnionsFrom, AllNoted, Passable, CameTo, NotesPut}
 use Rattle.list.proofs.Pauses.{here_pause, here_none, here_fresh, few_from, fewer_onward}
@@ -232,7 +232,7 @@ module _ {n : ℕ} {xs : List ℕ} {at node behind : ℕ} {ends notes : List ℕ
 
     pub noted_nothing : NotesPut at (at + 1) (packed_note behind behind 0) ends ends' notes notes' → (k : ℕ) → k ≡ kind_of_node node → k ≡ 0 → NotesFrom at n xs ends' notes'
     unfolding pauses nesting
-    noted_nothing w k i j = let z = sym (kind_is k i) ∙ j in noted_none nothing (λ q. omega (arith, z, q)) w refl refl (λ v. is_nothing v z)
+    noted_nothing w k i j = let z = sym (kind_is k i) ∙ j in noted_none nothing (λ q. omega (arith, z, q)) w refl refl (λ v. is_nothing_lem v z)
 
     pub noted_pause : NotesPut at (at + 1) (packed_note (behind + 1) behind 0) ends ends' notes notes' → (k : ℕ) → k ≡ kind_of_node node → k ≡ 1 → NotesFrom at n xs ends' notes'
     noted_pause w k i j = let z = sym (kind_is k i) ∙ j in written w (λ v. as_placed (is_pause v z) (right_pause z))

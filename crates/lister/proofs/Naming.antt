@@ -14,7 +14,7 @@ use Rattle.table.specs.Reading.{kind_of_node, operand_of}
 use Rattle.table.specs.inner.Places.{Placed, placed, Known}
 use Rattle.table.proofs.Places.{next_short}
 use Rattle.lister.specs.inner.Notes.{place_at, part_at, names_at, ReadWhole, EndsFrom, Startable}
-use Rattle.lister.proofs.Nodes.{One, Two, is_nothing, is_pause, is_gotopause, is_emit, is_exit, is_signal, is_present, is_sequence, is_parallel, is_loop, is_try}
+use Rattle.lister.proofs.Nodes.{One, Two, is_nothing_lem, is_pause, is_gotopause, is_emit, is_exit, is_signal, is_present, is_sequence, is_parallel, is_loop, is_try}
 
 -- one of the n nodes from a place on names S
 unfoldable pub named_in : ℕ → List ℕ → ℕ → ℕ → Bool
@@ -139,7 +139,7 @@ module _ (S n : ℕ) (xs : List ℕ) where
 
     at_nothing : kind ≡ 0 → Named at
     unfolding names size
-    at_nothing e = named_leaf at nothing (is_nothing w e) refl (sym (names_not S x 0 e refl))
+    at_nothing e = named_leaf at nothing (is_nothing_lem w e) refl (sym (names_not S x 0 e refl))
 
     at_pause : kind ≡ 1 → Named at
     unfolding names size

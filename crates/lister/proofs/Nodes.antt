@@ -100,9 +100,9 @@ module _ {n : ℕ} {xs : List ℕ} {at : ℕ} (w : ReadWhole n xs at) where
       }
 
   -- ---- the kinds
-  pub is_nothing : kind_of_node (get_or xs at 0) ≡ 0 → place_at xs at ≡ placed nothing (at + 1)
+  pub is_nothing_lem : kind_of_node (get_or xs at 0) ≡ 0 → place_at xs at ≡ placed nothing (at + 1)
   unfolding place_kind kind_of kinds
-  is_nothing e = node_is 0 e
+  is_nothing_lem e = node_is 0 e
 
   pub is_pause : kind_of_node (get_or xs at 0) ≡ 1 → place_at xs at ≡ placed (pause operand_at) (at + 1)
   unfolding place_kind kind_of kinds

@@ -31,7 +31,7 @@ use Rattle.area.proofs.Made.{made_as, made_need, made_empty}
 use Rattle.area.proofs.Rules.{product_parallel}
 use Rattle.lister.specs.inner.Notes.{place_at, part_at, labels_noted, PausesFrom, Startable, Resumable}
 use Rattle.lister.specs.inner.Joins.{room_for, Above, MadeOne, FollowedAgain}
-use Rattle.lister.proofs.Nodes.{is_nothing, is_pause, is_gotopause, is_emit, is_exit, is_signal, is_loop}
+use Rattle.lister.proofs.Nodes.{is_nothing_lem, is_pause, is_gotopause, is_emit, is_exit, is_signal, is_loop}
 use Rattle.lister.proofs.Joins.{beside_top, joined, followed}
 use Rattle.lister.proofs.Starts.{Child, ready_at, as_statement, present_at, sequence_at, parallel_at}
 
@@ -114,7 +114,7 @@ module _ {xs ends : List ℕ} {at : ℕ} (ready : Startable xs ends at) (M X E U
 
     pub resumed_nothing : kind_of_node (get_or xs at 0) ≡ 0 → Made a a base need here 0
     unfolding pauses
-    resumed_nothing e = without_pauses nothing (is_nothing ready.whole e) refl
+    resumed_nothing e = without_pauses nothing (is_nothing_lem ready.whole e) refl
 
     pub resumed_gotopause : kind_of_node (get_or xs at 0) ≡ 2 → Made a a base need here 0
     unfolding pauses

@@ -27,7 +27,7 @@ use Rattle.area.proofs.Rules.{capped_clashless, change_given, product_parallel, 
 use Rattle.area.proofs.Made.{made_as, made_need, made_empty}
 use Rattle.lister.specs.inner.Notes.{place_at, part_at, ReadWhole, EndsFrom, Startable}
 use Rattle.lister.specs.inner.Joins.{room_for}
-use Rattle.lister.proofs.Nodes.{One, Two, before_end, is_nothing, is_pause, is_gotopause, is_emit, is_exit, is_signal, is_present, is_sequence, is_parallel, is_loop, is_try}
+use Rattle.lister.proofs.Nodes.{One, Two, before_end, is_nothing_lem, is_pause, is_gotopause, is_emit, is_exit, is_signal, is_present, is_sequence, is_parallel, is_loop, is_try}
 use Rattle.lister.proofs.Clashes.{changed_going, changed_caught}
 
 -- ---- the children can be listed too
@@ -113,7 +113,7 @@ module _ {xs ends : List ℕ} {at : ℕ} (ready : Startable xs ends at) {a b : L
   pub list_nothing : kind_of_node (get_or xs at 0) ≡ 0 → Made a b base (base + 2) (some (row_when (condition_in 0) (reaction 0 0 0) ∷ [])) n
       → Made a b base (base + room_for (part_at xs at)) (capped_rows M (part_at xs at) start E U) n
   unfolding capped_rows always
-  list_nothing e m = made_leaf nothing (is_nothing ready.whole e) m
+  list_nothing e m = made_leaf nothing (is_nothing_lem ready.whole e) m
 
   pub list_pause : kind_of_node (get_or xs at 0) ≡ 1 → (l : ℕ) → l ≡ operand_of (get_or xs at 0) → Made a b base (base + 2) (capped_rows 0 (pause l) start 0 0) n
       → Made a b base (base + room_for (part_at xs at)) (capped_rows M (part_at xs at) start E U) n

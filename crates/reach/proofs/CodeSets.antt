@@ -54,9 +54,9 @@ pub view_code : (k place : ℕ) → place ≡ place_of k → 2 ≤ k → k ≤ 6
 view_code k place p h l = ap (λ (n : ℕ). codes_of (words 0 (1 * 2 ^ n % 2 ^ 64))) p ∙ at_place k h l
 
 -- the lowest bit as a test
-pub has_low : (m : ℕ) → eqb (bit_and m 1) 1 ≡ has m 0
+pub has_low_lem : (m : ℕ) → eqb (bit_and m 1) 1 ≡ has m 0
 unfolding has
-has_low m = ap (λ (n : ℕ). eqb n 1) (and_mask m 1)
+has_low_lem m = ap (λ (n : ℕ). eqb n 1) (and_mask m 1)
 
 -- ---- join, minus 0, through a try
 or_up : (x y : ℕ) → bit_or x y * 4 ≡ bit_or (x * 4) (y * 4)

@@ -187,10 +187,10 @@ plain_end v b ts vs opens s p e h = record { before = v; part = opening; ending 
 plain_end v b ts vs closes s p e h = record { before = v; part = closing; ending = record { spelt = ap (λ (x : ℕ). v ++ (x ∷ [])) s; clear = λ e. clash e refl } }
 plain_end v b ts vs other s p e h = none_broken v vs e
 
-blank_byte : (b : ℕ) → (b ≡ 32) ⊎ (b ≡ 10) → blank_byte b ≡ true
+blank_byte_lem : (b : ℕ) → (b ≡ 32) ⊎ (b ≡ 10) → blank_byte b ≡ true
 unfolding blank_byte
-blank_byte b (inl e) = ap blank_byte e
-blank_byte b (inr e) = ap blank_byte e
+blank_byte_lem b (inl e) = ap blank_byte e
+blank_byte_lem b (inr e) = ap blank_byte e
 
 -- where something is found, the text ends in a part
 pub rest_ends : (u : List ℕ) (ts vs : List Part) → rest u ts ≡ some vs → (blank_byte (last_of u) ≡ true → ts ≡ []) → (u ≡ []) ⊎ Ends u
@@ -202,7 +202,7 @@ rest_ends u ts vs e h = let R = run u in go R.before R.letters R.shape R.all R.c
     last (snoc v b) e h p =
         let l : last_of (v ++ (b ∷ [])) ≡ b = last_append v b [] in
         inr (plain_end v b ts vs (class_of b) (says b) (plain b (subst (λ (x : ℕ). is_letter x ≡ false) l p)) (sym (ap finished (lex_append v (b ∷ []) (at [] ts))) ∙ e)
-        (λ s. h (ap blank_byte l ∙ blank_byte b s)))
+        (λ s. h (ap blank_byte l ∙ blank_byte_lem b s)))
 
     go : (v ls : List ℕ) → u ≡ v ++ ls → Letters ls → is_letter (last_of v) ≡ false → (u ≡ []) ⊎ Ends u
     go v [] f a p = last (back u) e h (ap (λ (x : List ℕ). is_letter (last_of x)) (f ∙ append-nil v) ∙ p)

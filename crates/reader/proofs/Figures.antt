@@ -25,7 +25,7 @@ use Rattle.reader.proofs.Numerals.{number_here, number_ending, ending_number, si
 use Rattle.reader.proofs.Taking.{took, took_behind}
 use Rattle.reader.proofs.Places.{last_place}
 use Rattle.reader.proofs.Dues.{no_digits, no_pause}
-use Rattle.reader.proofs.Ranges.{signal_ranged, number_ranged, pause_ranged}
+use Rattle.reader.proofs.Ranges.{signal_ranged_lem, number_ranged, pause_ranged}
 
 module _ (bs : List ℕ) (end : ℕ) (fits : end ≤ length bs) (n : ℕ) (a b : Bool) (K : Frames) (B : Kept) where
   module _ {r : Digits} (N : Numbers bs end r) (d : is_digit (last_of (take end bs)) ≡ true) where
@@ -64,7 +64,7 @@ module _ (bs : List ℕ) (end : ℕ) (fits : end ≤ length bs) (n : ℕ) (a b :
         let shorter = M.shorter in
         took_behind bs end place (signal_of m) (due n a b K B) ranged ranged' t fs xs
         (λ ts. ending_rest _ _ (signal_of m) ts (signal_ending M (last_place bs start s (omega arith)) s clear (omega arith)) ∙ S.goes_on (signal_of m) ts) (omega (arith, S.below)) S.solid
-        (within ∙ signal_ranged ranged m M.held value-ranged) (subst (λ (k : ℕ). Took bs place (named n k a b K B) true t true fs xs) (sym M.held) T)
+        (within ∙ signal_ranged_lem ranged m M.held value-ranged) (subst (λ (k : ℕ). Took bs place (named n k a b K B) true t true fs xs) (sym M.held) T)
 
   -- ---- A pause
   module _ (last : last_of (take end bs) ≡ 101) where

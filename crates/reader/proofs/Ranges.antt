@@ -21,9 +21,9 @@ ranged_with : (ranged : Bool) {z y : Bool} → z ≡ y → (ranged && z) ≡ (y 
 ranged_with ranged {z} {y} e = ap (λ (x : Bool). ranged && x) e ∙ and_comm ranged y
 
 module _ (ranged : Bool) (m : ℕ) {value : ℕ} {z : Bool} (held : clip m ≡ value) where
-  pub signal_ranged : z ≡ signal_ranged value → (ranged && z) ≡ (part_ranged (signal_of m) && ranged)
+  pub signal_ranged_lem : z ≡ signal_ranged value → (ranged && z) ≡ (part_ranged (signal_of m) && ranged)
   unfolding part_ranged
-  signal_ranged e = ranged_with ranged (e ∙ sym (ap signal_ranged held) ∙ clip_signal m)
+  signal_ranged_lem e = ranged_with ranged (e ∙ sym (ap signal_ranged held) ∙ clip_signal m)
 
   pub number_ranged : z ≡ label_ranged value → (ranged && z) ≡ (part_ranged (number m) && ranged)
   unfolding part_ranged
@@ -36,4 +36,4 @@ module _ (ranged : Bool) (m : ℕ) {value : ℕ} {z : Bool} (held : clip m ≡ v
   -- a signal between two words
   pub heading_ranged : (w w' : Word) → z ≡ signal_ranged value → (ranged && z) ≡ (all_ranged (word w ∷ signal_of m ∷ word w' ∷ []) && ranged)
   unfolding part_ranged all_ranged
-  heading_ranged w w' e = signal_ranged e ∙ ap (λ (x : Bool). x && ranged) (sym (and-true (signal_ranged m)))
+  heading_ranged w w' e = signal_ranged_lem e ∙ ap (λ (x : Bool). x && ranged) (sym (and-true (signal_ranged m)))

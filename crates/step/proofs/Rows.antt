@@ -25,18 +25,18 @@ module _ (M I A U w o m n : ℕ) (e : o ≡ w / 2 ^ 32) (f : m ≡ (I union o) m
   abbrev meets : Bool
   meets = holds (condition_in w) (seen M (I union o))
 
-  row_steps : (l : ℕ) → row_steps M I A U (packed w l) ≡ (eqb m n && meets)
+  row_steps_lem : (l : ℕ) → row_steps M I A U (packed w l) ≡ (eqb m n && meets)
   unfolding row_steps packed
-  row_steps l =
+  row_steps_lem l =
       ap (λ (z : ℕ). eqb ((I union z) minus U) (A minus U) && holds (condition_in w) (seen M (I union z))) (sym e)
       ∙ ap₂ (λ (x y : ℕ). eqb x y && meets) (sym f) (sym g)
 
   pub steps_off : m ≢ n → (l : ℕ) → false ≡ row_steps M I A U (packed w l)
-  steps_off h l = sym (row_steps l ∙ ap (λ (b : Bool). b && meets) (ne_eqb m n h))
+  steps_off h l = sym (row_steps_lem l ∙ ap (λ (b : Bool). b && meets) (ne_eqb m n h))
 
   pub steps_met : {b : Bool} {F : ℕ} → m ≡ n → F ≡ seen M (I union o) → b ≡ holds (condition_in w) F → (l : ℕ) → b ≡ row_steps M I A U (packed w l)
   steps_met h s k l =
-      sym (row_steps l ∙ ap (λ (z : Bool). z && meets) (eq-eqb m n h) ∙ sym (k ∙ ap (holds (condition_in w)) s))
+      sym (row_steps_lem l ∙ ap (λ (z : Bool). z && meets) (eq-eqb m n h) ∙ sym (k ∙ ap (holds (condition_in w)) s))
 
   pub steps_sure : m ≡ n → condition_in w ≡ always → (l : ℕ) → true ≡ row_steps M I A U (packed w l)
   steps_sure h c = steps_met h refl (sym (ap (λ (z : Condition). holds z (seen M (I union o))) c ∙ holds_always (seen M (I union o))))

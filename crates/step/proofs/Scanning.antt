@@ -21,7 +21,7 @@ use Rattle.table.specs.Reading.{kind_of_node, operand_of}
 use Rattle.table.specs.inner.Places.{Placed, placed, Known, statement_of}
 use Rattle.table.proofs.Places.{next_short}
 use Rattle.lister.specs.inner.Notes.{place_at, part_at, ReadWhole, EndsFrom, Startable}
-use Rattle.lister.proofs.Nodes.{One, Two, is_nothing, is_pause, is_gotopause, is_emit, is_exit, is_signal, is_present, is_sequence, is_parallel, is_loop, is_try}
+use Rattle.lister.proofs.Nodes.{One, Two, is_nothing_lem, is_pause, is_gotopause, is_emit, is_exit, is_signal, is_present, is_sequence, is_parallel, is_loop, is_try}
 
 -- what was met of a signal
 pub record Met : Type 0 where
@@ -247,7 +247,7 @@ module _ (S : ℕ) (xs ends : List ℕ) where
 
       at_nothing : kind_of_node x ≡ 0 → ScansAt at
       unfolding size emitted_free
-      at_nothing e = by_place nothing (at + 1) (is_nothing w e) (scans_leaf at nothing refl refl (plain 0 e (λ h. omega arith) (λ h. omega arith)))
+      at_nothing e = by_place nothing (at + 1) (is_nothing_lem w e) (scans_leaf at nothing refl refl (plain 0 e (λ h. omega arith) (λ h. omega arith)))
 
       at_pause : kind_of_node x ≡ 1 → ScansAt at
       unfolding size emitted_free

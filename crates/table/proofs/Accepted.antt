@@ -40,9 +40,9 @@ Faithful left child =
 never : (w : ℕ) (p : Statement) (ys : List ℕ) (used : ℕ) → refused w ≡ read p ys used → ⊥
 never w p ys used h = let z : ◌≡◌ {A = ℕ} 0 1 = cc in omega arith
 
-pub read_kind : (k o : ℕ) (child : Child) (tries used : ℕ) (xs : List ℕ) → o < 64
+pub read_kind_lem : (k o : ℕ) (child : Child) (tries used : ℕ) (xs : List ℕ) → o < 64
     → read_kind (kind_of (node k o / 64)) (node k o % 64) child tries used xs ≡ read_kind (kind_of k) o child tries used xs
-read_kind k o child tries used xs h = rw (kind_node k o h, operand_node k o h)
+read_kind_lem k o child tries used xs h = rw (kind_node k o h, operand_node k o h)
 
 no_label : (used : ℕ) → Apart used 0
 no_label used x h = has_empty x
@@ -121,7 +121,7 @@ module _ (left tries used : ℕ) (child : Child) (ih : Faithful left child) (xs 
   -- ---- Kind by kind
   kept : (k o : ℕ) → o < 64 → read_kind (kind_of (node k o / 64)) (node k o % 64) child tries used xs ≡ read p ys used'
       → read_kind (kind_of k) o child tries used xs ≡ read p ys used'
-  kept k o b h = sym (read_kind k o child tries used xs b) ∙ h
+  kept k o b h = sym (read_kind_lem k o child tries used xs b) ∙ h
 
   read_sound : (x : ℕ) → Faultless tries used x → read_kind (kind_of (x / 64)) (x % 64) child tries used xs ≡ read p ys used' → ReadBehind x
   unfolding read_kind kind_of kinds nodes pauses depth Valid

@@ -14,7 +14,7 @@ use Rattle.table.specs.Writing.{node, nodes}
 use Rattle.table.proofs.Nodes.{depth_positive}
 use Rattle.table.proofs.Faults as sound
 use Rattle.table.proofs.Faults.{Faultless, fault_none, none_fault}
-use Rattle.table.proofs.Accepted.{Child, read_kind}
+use Rattle.table.proofs.Accepted.{Child, read_kind_lem}
 
 -- labels 1 to 63, signals 0 to 31 and levels 1 to 63: all that a node can say of its operand. A statement that stands in a
 -- table is Valid besides.
@@ -64,7 +64,7 @@ by_kind : (left tries used k o : ℕ) (xs ys : List ℕ) (p : Statement) → o <
     → Reread (suc left) tries used p ys (read_kind (kind_of k) o (read_from left) tries used xs)
     → Reread (suc left) tries used p ys (read_from (suc left) tries used (node k o ∷ xs))
 unfolding read_from read_node
-by_kind left tries used k o xs ys p b s O = rw (read_kind k o (read_from left) tries used xs b) (go (fault_of (suc left) tries used (node k o)) refl)
+by_kind left tries used k o xs ys p b s O = rw (read_kind_lem k o (read_from left) tries used xs b) (go (fault_of (suc left) tries used (node k o)) refl)
   where
     go : (w : ℕ) → fault_of (suc left) tries used (node k o) ≡ w → Reread (suc left) tries used p ys (read_if w (read_kind (kind_of k) o (read_from left) tries used xs))
     go zero e = O

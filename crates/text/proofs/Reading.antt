@@ -16,7 +16,7 @@ use Rattle.table.proofs.RoundTrip.{valid_ranged, read_written, never_another}
 use Rattle.text.specs.Spelling.{TextOf}
 use Rattle.text.specs.inner.Lexer.{read_text}
 use Rattle.text.specs.Reading.{label_ranged, signal_ranged, ranged, table_for, table_in}
-use Rattle.text.proofs.Texts.{text_read, read_text}
+use Rattle.text.proofs.Texts.{text_read, read_text_lem}
 
 -- ---- Numbers in range
 
@@ -91,4 +91,4 @@ accepted_text bs n p = go (read_text bs) refl
     go (some q) f e =
         let N = for_accepted q n p e in
         let same : q ≡ p = sym N.0 in
-        (subst (TextOf bs) same (read_text bs q f), subst Allowed same N.2, N.1 ∙ ap size same)
+        (subst (TextOf bs) same (read_text_lem bs q f), subst Allowed same N.2, N.1 ∙ ap size same)

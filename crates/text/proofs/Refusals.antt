@@ -19,7 +19,7 @@ use Rattle.table.specs.Reading.{Reading, read, with_one, with_two, read_kind, re
 use Rattle.table.specs.Writing.{node, nodes, write_nodes, write}
 use Rattle.table.proofs.Nodes.{kind_node, operand_node, length_nodes}
 use Rattle.table.proofs.Faults.{fault_none}
-use Rattle.table.proofs.Accepted.{read_kind}
+use Rattle.table.proofs.Accepted.{read_kind_lem}
 use Rattle.table.proofs.Fields.{headed_accepted, headed_written, nodes_written}
 use Rattle.table.proofs.ReadBack.{Ranged, Reread, back, refused, read_back}
 use Rattle.table.proofs.RoundTrip.{below_nodes}
@@ -84,7 +84,7 @@ first zero tries used k o rest w r e = go (fault_of 0 tries used (node k o)) ref
 first (suc left) tries used k o rest w r e = go (fault_of (suc left) tries used (node k o)) (node_fault (suc left) tries used k o r) e
   where
     go : (v : ℕ) → Fault v → read_if v (read_kind (kind_of (node k o / 64)) (node k o % 64) (read_from left) tries used rest) ≡ Reading.refused w → First tries used k o rest w
-    go zero g h = inr (left, sym (read_kind k o (read_from left) tries used rest r.small) ∙ h)
+    go zero g h = inr (left, sym (read_kind_lem k o (read_from left) tries used rest r.small) ∙ h)
     go (suc v) (inl g) h = absurd (omega arith)
     go (suc v) (inr g) h = inl (subst Late (same_refusal (suc v) w h) g)
 

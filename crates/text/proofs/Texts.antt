@@ -21,9 +21,9 @@ unfolding read_text read_some read_parts
 text_read bs p t = ap read_some (parts_found t.spelled) ∙ reads t.text
 
 -- and nowhere else
-pub read_text : (bs : List ℕ) (p : Statement) → read_text bs ≡ some p → TextOf bs p
+pub read_text_lem : (bs : List ℕ) (p : Statement) → read_text bs ≡ some p → TextOf bs p
 unfolding read_text read_some read_parts
-read_text bs p e = go (parts_in bs) refl e
+read_text_lem bs p e = go (parts_in bs) refl e
   where
     go : (r : Option (List Part)) → parts_in bs ≡ r → read_some r ≡ some p → TextOf bs p
     go none f g = absurd (none-ne-some p g)

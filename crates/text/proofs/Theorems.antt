@@ -17,12 +17,12 @@ use Rattle.text.specs.Theorems.{Unambiguous, ExactReading, ExactAccepting, Exact
 use Rattle.text.proofs.Written.{written_text}
 use Rattle.text.proofs.Fewest.{fewest}
 use Rattle.text.proofs.Lexer.{spelled_all}
-use Rattle.text.proofs.Texts.{text_read, read_text, text_written}
+use Rattle.text.proofs.Texts.{text_read, read_text_lem, text_written}
 use Rattle.text.proofs.Reading.{text_accepted, accepted_text}
 use Rattle.text.proofs.Refusals.{text_refused, read_unbroken}
 
 pub exact_reading : ExactReading
-exact_reading bs p = (read_text bs p, text_read bs p)
+exact_reading bs p = (read_text_lem bs p, text_read bs p)
 
 pub unambiguous : Unambiguous
 unambiguous bs p q t u = some-injective p q (sym (text_read bs p t) ∙ text_read bs q u)
@@ -36,7 +36,7 @@ exact_breaking bs = (λ e p t. read_unbroken bs p (text_read bs p t) e, λ none_
   where
     go : (r : Option Statement) → read_text bs ≡ r → ((p : Statement) → TextOf bs p → ⊥) → table_for (read_text bs) ≡ Table.refused 18
     go none e h = ap table_for e
-    go (some p) e h = absurd (h p (read_text bs p e))
+    go (some p) e h = absurd (h p (read_text_lem bs p e))
 
 pub refused_as : RefusedAs
 refused_as bs w e = text_refused bs w e

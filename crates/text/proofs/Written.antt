@@ -42,20 +42,20 @@ Written l ts p = (n : ℕ) → depth p ≤ suc n → Text l n ts p
 never_flat : {A : Type 0} (p : Statement) → depth p ≤ 0 → A
 never_flat p h = absurd (omega (arith, depth_positive p))
 
-as_single : (l : Level) (n : ℕ) (ts : List Part) (p : Statement) → Written l ts p → depth p ≤ n → Text single n (as_single l ts) p
+as_single_lem : (l : Level) (n : ℕ) (ts : List Part) (p : Statement) → Written l ts p → depth p ≤ n → Text single n (as_single l ts) p
 unfolding as_single enclosed
-as_single single n ts p f h = f n (omega arith)
-as_single chain zero ts p f h = never_flat p h
-as_single chain (suc n) ts p f h = brackets ts (one_whole (f n h)) refl
-as_single whole zero ts p f h = never_flat p h
-as_single whole (suc n) ts p f h = brackets ts (f n h) refl
+as_single_lem single n ts p f h = f n (omega arith)
+as_single_lem chain zero ts p f h = never_flat p h
+as_single_lem chain (suc n) ts p f h = brackets ts (one_whole (f n h)) refl
+as_single_lem whole zero ts p f h = never_flat p h
+as_single_lem whole (suc n) ts p f h = brackets ts (f n h) refl
 
-as_chain : (l : Level) (n : ℕ) (ts : List Part) (p : Statement) → Written l ts p → depth p ≤ n → Text chain n (as_chain l ts) p
+as_chain_lem : (l : Level) (n : ℕ) (ts : List Part) (p : Statement) → Written l ts p → depth p ≤ n → Text chain n (as_chain l ts) p
 unfolding as_chain enclosed
-as_chain single n ts p f h = one_chain (f n (omega arith))
-as_chain chain n ts p f h = f n (omega arith)
-as_chain whole zero ts p f h = never_flat p h
-as_chain whole (suc n) ts p f h = one_chain (brackets ts (f n h) refl)
+as_chain_lem single n ts p f h = one_chain (f n (omega arith))
+as_chain_lem chain n ts p f h = f n (omega arith)
+as_chain_lem whole zero ts p f h = never_flat p h
+as_chain_lem whole (suc n) ts p f h = one_chain (brackets ts (f n h) refl)
 
 -- a body that `end` closes
 as_body : (l : Level) (n : ℕ) (ts : List Part) (p : Statement) → Written l ts p → depth p ≤ suc n → Text whole n ts p
@@ -76,10 +76,10 @@ written (Statement.present S p q) (suc n) h =
     present (parts_of p) (parts_of q) (as_body (level_of p) n (parts_of p) p (written p) (omega arith)) (as_body (level_of q) n (parts_of q) q (written q) (omega arith)) refl
 written (Statement.sequence p q) n h =
     sequence (as_single (level_of p) (parts_of p)) (as_chain (level_of q) (parts_of q))
-    (as_single (level_of p) n (parts_of p) p (written p) (omega arith)) (as_chain (level_of q) n (parts_of q) q (written q) (omega arith)) refl
+    (as_single_lem (level_of p) n (parts_of p) p (written p) (omega arith)) (as_chain_lem (level_of q) n (parts_of q) q (written q) (omega arith)) refl
 written (Statement.parallel p q) n h =
     parallel (as_chain (level_of p) (parts_of p)) (parts_of q)
-    (as_chain (level_of p) n (parts_of p) p (written p) (omega arith)) (as_body (level_of q) n (parts_of q) q (written q) (omega arith)) refl
+    (as_chain_lem (level_of p) n (parts_of p) p (written p) (omega arith)) (as_body (level_of q) n (parts_of q) q (written q) (omega arith)) refl
 written (Statement.loop p) zero h = never_flat p (omega arith)
 written (Statement.loop p) (suc n) h = loop (parts_of p) (as_body (level_of p) n (parts_of p) p (written p) (omega arith)) refl
 written (Statement.try p) zero h = never_flat p (omega arith)

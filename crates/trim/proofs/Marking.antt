@@ -66,9 +66,9 @@ module _ (R : ℕ) (p q : Placed) (x y : Exits) (P : ExitsAre R p x) (Q : ExitsA
       }
 
 -- those that are left with a flag
-exits_if : (R : ℕ) (q : Placed) (y : Exits) → ExitsAre R q y → (b : Bool) (d : ℕ) → has (exits_if b y) (suc d) ≡ ends_at d (trim R b q.statement)
-exits_if R q y Q true d = Q.started d
-exits_if R q y Q false d = Q.resumed d
+exits_if_lem : (R : ℕ) (q : Placed) (y : Exits) → ExitsAre R q y → (b : Bool) (d : ℕ) → has (exits_if b y) (suc d) ≡ ends_at d (trim R b q.statement)
+exits_if_lem R q y Q true d = Q.started d
+exits_if_lem R q y Q false d = Q.resumed d
 
 -- whether a statement can end, started
 can_start : (R : ℕ) (p : Statement) {K D : Codes} → K ≡ s p → D ≡ d R p → (D.ends || K.ends) ≡ can_end R true p
@@ -88,13 +88,13 @@ turn_exits R p q x y u v h k P Q =
     }
   where
     then : (d : ℕ) (b z : Bool) → z ≡ can_end R b p.statement → has (exits_if z y) (suc d) ≡ ends_at d (trim R (can_end R b p.statement) q.statement)
-    then d b z e = ap (λ (z : Bool). has (exits_if z y) (suc d)) e ∙ exits_if R q y Q (can_end R b p.statement) d
+    then d b z e = ap (λ (z : Bool). has (exits_if z y) (suc d)) e ∙ exits_if_lem R q y Q (can_end R b p.statement) d
 
 again_exits : (R : ℕ) (p : Placed) (x : Exits) (u : Bool) → u ≡ can_end R false p.statement → ExitsAre R p x → ExitsAre R (placed (loop p.statement) p.next) (again_of u x)
 again_exits R p x u h P =
     record {
       resumed = λ d.
-          ap (λ (z : Bool). has (exits_if z x) (suc d)) h ∙ exits_if R p x P (can_end R false p.statement) d
+          ap (λ (z : Bool). has (exits_if z x) (suc d)) h ∙ exits_if_lem R p x P (can_end R false p.statement) d
           ∙ ap (λ (b : Bool). ends_at d (trim R b p.statement)) (sym (or_false (can_end R false p.statement))) ∙ sym (ends_loop d R false p.statement);
       started = λ d. P.started d ∙ ap (λ (b : Bool). ends_at d (trim R b p.statement)) (sym (or_true (can_end R true p.statement))) ∙ sym (ends_loop d R true p.statement);
     }

@@ -18,7 +18,7 @@ use Rattle.sets.proofs.Booleans.{or_false, by_cond, eqb_same, eqb_differ}
 use Rattle.sets.proofs.Members.{has_union, has_empty, has_only, has_only_other, only_fits}
 use Rattle.esterel.specs.Statement.{Statement, nothing, pause, gotopause, emit, exit, signal, present, sequence, parallel, loop, try, depth}
 use Rattle.esterel.specs.Trimming.{is_nothing, names, join_parts}
-use Rattle.esterel.proofs.Trimming.{is_nothing, join_first, join_both}
+use Rattle.esterel.proofs.Trimming.{is_nothing_lem, join_first, join_both}
 use Rattle.table.specs.Kinds.{kinds, kind_of, row_of}
 use Rattle.table.specs.Writing.{nodes, node}
 use Rattle.table.proofs.Nodes.{depth_positive}
@@ -104,7 +104,7 @@ unfolding part
 part_none t = go (is_nothing t) refl
   where
     go : (z : Bool) → is_nothing t ≡ z → length (cond z [] (nodes t)) ≡ 0 → t ≡ nothing
-    go true e h = is_nothing t e
+    go true e h = is_nothing_lem t e
     go false e h = let n = nodes_some t in absurd (omega arith)
 
 part_some : (t : Statement) → length (part t) ≢ 0 → is_nothing t ≡ false

@@ -126,7 +126,7 @@ returns_5 c =
     let r = s.args.reader in
     signal_taken _ _ s.requires.0.within r.left r.after r.beside (stack_of r s.args.frames.now) (nodes_held r s.args.nodes.now) k.number.ensures v.value.given.1 s.args.ranged.now _ c.take-signal.result s.args.frames.now _
     (sym b.before2.ensures ∙ t.before.if1.false) (sym t.touches2.ensures ∙ g.before.if3.false)
-    c.before.before.skip2.ensures g.signal_ranged.ensures refl c.take-signal.ensures
+    c.before.before.skip2.ensures g.signal_ranged_lem.ensures refl c.take-signal.ensures
 
 pub take-digits-spec : {M : Type 1} → statement M
 take-digits-spec =

@@ -62,7 +62,7 @@ returns_2 c = λ b B e.
     let q = h.before.before in
     let s = q.before.before.before in
     took_then _ _ s.requires.0.within (λ i. omega (arith, q.before.before.shared-slice-known.given i)) s.requires.1 _ b _ B (sym q.before.ends.ensures ∙ q.if1.true) h.before.skip.ensures v.signal.given.1
-    (h.heading.ensures Present refl (sym (word_number_lem Present)) (sym (word_count_lem Present))) e _ r.signal_ranged.ensures _ _ _ c.branch.ensures
+    (h.heading.ensures Present refl (sym (word_number_lem Present)) (sym (word_count_lem Present))) e _ r.signal_ranged_lem.ensures _ _ _ c.branch.ensures
 
 sub-ends-2 : tie.Need-overflow-sub-ends-2
 sub-ends-2 c = search rules

@@ -2,13 +2,13 @@
 use mathlib.Core.Path.{sym, ap, ◌∙◌}
 use Rattle.sets.proofs.Members.{has_word}
 use Rattle.trim.specs.inner.Notes.{kept_of}
-use Rattle.reach.proofs.CodeSets.{has_low}
+use Rattle.reach.proofs.CodeSets.{has_low_lem}
 use Rattle.trim.proofs.noted.keeps_try.Statement.{statement}
 use Rattle.trim.proofs.noted.keeps_try.Tie as tie
 
 returns : tie.Need-returns
 unfolding kept_of
-returns c = let note = c.before.args.note in has_low note ∙ ap (kept_of note) (sym c.if1.true)
+returns c = let note = c.before.args.note in has_low_lem note ∙ ap (kept_of note) (sym c.if1.true)
 
 returns_2 : tie.Need-returns-2
 unfolding kept_of

@@ -102,11 +102,11 @@ module _ (t : ℕ) (e : write-at-lts.After-operand-of (claims t) (write_at_at t)
   abbrev first_child : Placed
   first_child = first_of start.args.left start.args.nodes.now start.args.at.now
 
-  abbrev first_text : List ℕ
-  first_text = first_text kind start.args.left start.args.nodes.now start.args.at.now
+  abbrev first_text_lem : List ℕ
+  first_text_lem = first_text kind start.args.left start.args.nodes.now start.args.at.now
 
-  abbrev second_text : List ℕ
-  second_text = second_text kind start.args.left start.args.nodes.now start.args.at.now
+  abbrev second_text_lem : List ℕ
+  second_text_lem = second_text kind start.args.left start.args.nodes.now start.args.at.now
 
   deep : 1 ≤ start.args.left
   deep = stands_deep writable.readable
@@ -134,7 +134,7 @@ module _ (t : ℕ) (h : write-at-lts.After-put-head (claims t) (write_at_at t) w
       Coming (start t node).args.place (text_there (level t node) (start t node).args.left (start t node).args.nodes.now (start t node).args.at.now)
       (start t node).args.out.now here rest out'
 
-  headed : Left h.put-head.result (first_text t node ++ over.behind) h.put-head.last.0
+  headed : Left h.put-head.result (first_text_lem t node ++ over.behind) h.put-head.last.0
   headed = behind_head over (writable t node) bracketed.enclosed.ensures h.put-head.ensures
 
 -- behind its first child
@@ -171,7 +171,7 @@ module _ (t : ℕ) (b : write-at-lts.After-put-between (claims t) (write_at_at t
   paired = two t tested b.before.before.if2.left
 
   joined : Left t (begun t first) b.put-between.result
-      (second_text t (node t (begun t first)) ++ tail_bytes t (begun t first)) b.put-between.last.0
+      (second_text_lem t (node t (begun t first)) ++ tail_bytes t (begun t first)) b.put-between.last.0
   joined = behind_between (over t (begun t first)) (passed t first) (first_done t first) paired b.put-between.ensures
 
 -- behind its second child
