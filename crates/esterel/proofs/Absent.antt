@@ -60,6 +60,7 @@ needs_absent (parallel p q) X E r h m =
 needs_absent (loop p) X E r h (inl e) = absent_same X r (request p (resumed X) E) e (refl, h)
 needs_absent (loop p) X E r h (inr m) = not_started X r (request p start E) (list p (resumed X) E) (apart_empty p X E h) m
 needs_absent (try p) X E r h (inl e) = absent_same X r (request p (resumed X) E) e (refl, h)
+needs_absent (try p) X E r h (inr m) = elim m [ ]
 
 not_crowded : {p : Statement} {x : State} {E : ℕ} → Crowded p x E → (X : ℕ) → x ≡ resumed X → Apart X (pauses p) → ⊥
 not_crowded {p} {x} {E} (own h) X e a =

@@ -135,6 +135,7 @@ before_self r (inr (a)) = go a.1
 pub insert_out : (u r : Reaction) (ts : List Reaction) → Listed u (insert r ts) → (u ≡ r) ⊎ Listed u ts
 unfolding insert
 insert_out u r [] (inl e) = inl e
+insert_out u r [] (inr x'') = elim x'' [ ]
 insert_out u r (t ∷ ts) m =
     by_cond (λ z. Listed u z → (u ≡ r) ⊎ Listed u (t ∷ ts)) (before r t) (r ∷ t ∷ ts) (cond (before t r) (t ∷ insert r ts) (t ∷ ts))
     (λ e h. first h)
@@ -144,7 +145,6 @@ insert_out u r (t ∷ ts) m =
     first : Listed u (r ∷ t ∷ ts) → (u ≡ r) ⊎ Listed u (t ∷ ts)
     first (inl e) = inl e
     first (inr h) = inr h
-insert_out u r [] (inr x'') = elim x'' [ ]
 
     third : (u ≡ r) ⊎ Listed u ts → (u ≡ r) ⊎ Listed u (t ∷ ts)
     third (inl e) = inl e

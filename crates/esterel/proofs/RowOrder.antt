@@ -82,6 +82,7 @@ row_trans u v w = less_trans (less_trans (less_trans (less_trans (λ h k. omega 
 insert_out : (u w : Row) (vs : List Row) → Listed u (insert_row w vs) → (u ≡ w) ⊎ Listed u vs
 unfolding insert_row
 insert_out u w [] (inl e) = inl e
+insert_out u w [] (inr x'') = elim x'' [ ]
 insert_out u w (v ∷ vs) m =
     by_cond (λ z. Listed u z → (u ≡ w) ⊎ Listed u (v ∷ vs)) (before_row w v) (w ∷ v ∷ vs) (cond (before_row v w) (v ∷ insert_row w vs) (v ∷ vs))
     (λ e h. h)
@@ -91,7 +92,6 @@ insert_out u w (v ∷ vs) m =
     later : (u ≡ w) ⊎ Listed u vs → (u ≡ w) ⊎ Listed u (v ∷ vs)
     later (inl e) = inl e
     later (inr h) = inr (inr h)
-insert_out u w [] (inr x'') = elim x'' [ ]
 
     second : (Listed u (insert_row w vs) → (u ≡ w) ⊎ Listed u vs) → Listed u (v ∷ insert_row w vs) → (u ≡ w) ⊎ Listed u (v ∷ vs)
     second ih (inl e) = inr (inl e)

@@ -156,6 +156,7 @@ made_out (suc n) I F E m =
         → Listed E (made_of n (I union only n) F) ⊎ Listed E (made_of n I F) → Between (suc n) I F E
     go f g (inl l) = f l
     go f g (inr l) = g l
+made_out zero I F E (inr x'') = elim x'' [ ]
 
 -- where all of F are below n, they are the sets that differ from I in members of F that I has not
 pub made_agree : (n I F E : ℕ) → ((S : ℕ) → has F S ≡ true → S < n) → Listed E (made_of n I F) ↔ Agree (F minus I) I E
