@@ -1,0 +1,7 @@
+-- The row is read and stored.
+use Rattle.area.proofs.Moves.{taken}
+use borrow.Author.Rules.{rules}
+use Rattle.area.proofs.take.Goals as goal
+
+pub returns : goal.returns
+returns c = taken c.store.ensures
