@@ -53,7 +53,7 @@ gather-requires c κs = (omega arith, omega arith, c.before.before.before.before
 put-bytes-requires-2 : tie.Need-put-bytes-requires-2 invariant_loop decreases_loop
 put-bytes-requires-2 c κs =
     let behind = c.before.before.before.before.before.before in
-    (omega arith, omega (arith, (header behind).same, (room behind).ranges))
+    (omega arith, omega (arith, (header behind).same, (room behind).fits))
 
 add_at : tie.Need-overflow-add-at invariant_loop decreases_loop
 add_at c = omega arith
@@ -97,7 +97,7 @@ shl-put-bytes c = omega arith
 put-bytes-requires-3 : tie.Need-put-bytes-requires-3 invariant_loop decreases_loop
 put-bytes-requires-3 c κs =
     let behind = c.before.before.before.before.before.before in
-    (omega arith, omega (arith, (header behind).same, (room behind).ranges))
+    (omega arith, omega (arith, (header behind).same, (room behind).fits))
 
 same_length : tie.Need-same-length invariant_loop decreases_loop
 same_length c =
