@@ -1,0 +1,14 @@
+-- By the table's promise; what has no number of a kind fixes nothing.
+use mathlib.Core.Path.{sym, ap, ◌∙◌}
+use lib.ListN.{get_or-eq_default}
+use Rattle.table.specs.Kinds.{unused, kinds, kind_of, row_of}
+use Rattle.table.proofs.Rows.{row_at}
+use borrow.Author.Rules.{rules}
+use Rattle.table.proofs.kinds.row_in.Goals as goal
+
+pub returns-then-kind-lt16 : goal.returns-then-kind-lt16
+returns-then-kind-lt16 c = c.unpack.ensures ∙ row_at _ c.requires c.args.kind
+
+pub returns-else-kind-lt16 : goal.returns-else-kind-lt16
+unfolding row_of kind_of kinds
+returns-else-kind-lt16 c = c.unpack-else-kind-lt16.ensures ∙ ap row_of (sym (get_or-eq_default kinds unused c.if-kind-lt16.false))
