@@ -116,9 +116,15 @@ def main():
     # A word that is no part of a path.
     alone = re.compile(r"(?<![^\s(){},;@\"«»])" + WORD + r"(?![^\s(){},;@\"«»])")
 
+    # What a ghost use item calls a module of definitions.
+    called = re.compile(r"ghost use Rattle\.(?:" + "|".join(own) + r")\.specs\.\S+ as (\w+);")
+    heads = {m[1] for p in rust for m in called.finditer(open(p, encoding="utf-8").read())}
+
     def turn(text, mine, dotted):
         def one(m):
             w = m[0]
+            if w in everywhere and re.search(r"(?<![\w.])(?:" + "|".join(sorted(heads)) + r")\.$", text[:m.start()]):
+                return in_snake_case(w)
             if w in mine or (dotted and m.start() and text[m.start() - 1] == "." and w in fields):
                 return in_snake_case(w)
             return w

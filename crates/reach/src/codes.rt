@@ -35,7 +35,7 @@ pub fn none() -> CodeSet
 }
 
 pub fn just_ended() -> CodeSet
-    ensures { codes_of result ≡ set.justEnded }
+    ensures { codes_of result ≡ set.just_ended }
 {
     CodeSet {
         labels: 0,
@@ -45,7 +45,7 @@ pub fn just_ended() -> CodeSet
 
 pub fn just_at(label: Label) -> CodeSet
     requires { label.0 < 64 }
-    ensures { codes_of result ≡ set.justAt label.0 }
+    ensures { codes_of result ≡ set.just_at label.0 }
 {
     CodeSet {
         labels: 1 << label.0,
@@ -56,7 +56,7 @@ pub fn just_at(label: Label) -> CodeSet
 // The set of one code of 2 and up.
 pub fn just_code(code: Code) -> CodeSet
     requires { (2 ≤ code.0) × (code.0 ≤ 64) }
-    ensures { codes_of result ≡ set.justCode code.0 }
+    ensures { codes_of result ≡ set.just_code code.0 }
 {
     CodeSet {
         labels: 0,
@@ -81,7 +81,7 @@ pub fn join(a: CodeSet, b: CodeSet) -> CodeSet
 }
 
 pub fn minus_zero(a: CodeSet) -> CodeSet
-    ensures { codes_of result ≡ set.minusZero (codes_of a) }
+    ensures { codes_of result ≡ set.minus_zero (codes_of a) }
 {
     CodeSet {
         labels: a.labels,
@@ -90,7 +90,7 @@ pub fn minus_zero(a: CodeSet) -> CodeSet
 }
 
 pub fn through_try(a: CodeSet) -> CodeSet
-    ensures { codes_of result ≡ set.throughTry (codes_of a) }
+    ensures { codes_of result ≡ set.through_try (codes_of a) }
 {
     CodeSet {
         labels: a.labels,
@@ -107,7 +107,7 @@ pub fn followed_by(a: CodeSet, b: CodeSet) -> CodeSet
 
 // The members of `a` that are no lower than some member of `b`.
 fn not_below(a: u64, b: u64) -> u64
-    ensures { result ≡ set.notBelow a a b }
+    ensures { result ≡ set.not_below a a b }
 {
     if b == 0 {
         return 0;
@@ -118,7 +118,7 @@ fn not_below(a: u64, b: u64) -> u64
 
 // The codes of `a` that are no lower than some code of `b`: 0 is below a label, a label below a code of 2 and up.
 fn no_lower_than(a: CodeSet, b: CodeSet) -> CodeSet
-    ensures { codes_of result ≡ set.noLowerThan (codes_of a) (codes_of b) }
+    ensures { codes_of result ≡ set.no_lower_than (codes_of a) (codes_of b) }
 {
     if ends(b) {
         return a;
