@@ -1,0 +1,10 @@
+-- The difference of two sets, bit by bit.
+use mathlib.Core.Path.{refl}
+use Rattle.sets.specs.Set.{◌minus◌}
+use Rattle.lister.specs.inner.Notes.{labels_noted}
+use borrow.Author.Rules.{rules}
+use Rattle.lister.proofs.noted.pauses_of.Goals as goal
+
+pub returns : goal.returns
+unfolding labels_noted ◌minus◌
+returns c = refl
