@@ -33,6 +33,7 @@ use Rattle.lister.proofs.Starts.{Child, place_few, ready_at, child_signal, child
 use Rattle.lister.proofs.Resumes.{resumable_at, meets, meets_not, child_made, beside_child, joined_child, signal_given_up}
 use Rattle.lister.proofs.Resumes.{resumed_quiet, resumed_nothing, resumed_pause, resumed_gotopause, resumed_emit, resumed_exit, resumed_present, resumed_sequence, resumed_right, resumed_left, resumed_both, resumed_loop}
 use Rattle.lister.proofs.reacting.+resume.Goals as goal
+use Rattle.lister.proofs.reacting.+resume.Goals.{then-contains+else-m-ne-OVER, else-contains}
 
 pub returns-then-base-area : goal.returns-then-base-area
 returns-then-base-area t c =
@@ -128,7 +129,7 @@ hide_unknown-m-requires t c =
 pub returns-then-m-ne-OVER : goal.returns-then-m-ne-OVER
 returns-then-m-ne-OVER t c =
     let Below : ℕ → Type 0 = λ i. Child c.requires.1.ready.count c.args.nodes.now c.args.at i in
-    let changed_child : (i : ℕ) (a b c₂ : List ℕ) (n r : ℕ) (v : CappedRows) → (f : Change) Below i → Made a b c.args.base (c.args.base + room_for (part_at c.args.nodes.now i)) v n
+    let changed_child : (i : ℕ) (a b c₂ : List ℕ) (n r : ℕ) (v : CappedRows) → (f : Change) → Below i → Made a b c.args.base (c.args.base + room_for (part_at c.args.nodes.now i)) v n
       → Altered f b c₂ c.args.base n r → Made a c₂ c.args.base (c.args.base + room_for (part_at c.args.nodes.now c.args.at)) (change_rows (change f) v) r = λ i a b c₂ n r v f k m x. altered f (child_made k m) x in
     let kind_is : (n : ℕ) → c.kind_of.result ≡ n → kind_of_node (get_or c.args.nodes.now c.args.at 0) ≡ n = λ n e. sym c.kind_of.ensures ∙ e in
     let is_named : names c.operand_of-operand.result (part_at c.args.nodes.now (c.args.at + 1)) ≡ true = sym c.named.ensures ∙ c.if-not-named.false in
@@ -143,20 +144,21 @@ shape_of-area-then-m-ne-OVER t c =
 pub returns-then-unknown-ne0 : goal.returns-then-unknown-ne0
 returns-then-unknown-ne0 t c =
     let Below : ℕ → Type 0 = λ i. Child c.requires.1.ready.count c.args.nodes.now c.args.at i in
-    let changed_child : (i : ℕ) (a b c₂ : List ℕ) (n r : ℕ) (v : CappedRows) → (f : Change) Below i → Made a b c.args.base (c.args.base + room_for (part_at c.args.nodes.now i)) v n
+    let changed_child : (i : ℕ) (a b c₂ : List ℕ) (n r : ℕ) (v : CappedRows) → (f : Change) → Below i → Made a b c.args.base (c.args.base + room_for (part_at c.args.nodes.now i)) v n
       → Altered f b c₂ c.args.base n r → Made a c₂ c.args.base (c.args.base + room_for (part_at c.args.nodes.now c.args.at)) (change_rows (change f) v) r = λ i a b c₂ n r v f k m x. altered f (child_made k m) x in
     let met : c.args.labels intersect pauses (part_at c.args.nodes.now c.args.at) ≡ 0 → ⊥ = meets c.requires.1 c.args.labels c.pauses_of.ensures c.if-labels-pauses_of-eq0.false in
     let kind_is : (n : ℕ) → c.kind_of.result ≡ n → kind_of_node (get_or c.args.nodes.now c.args.at 0) ≡ n = λ n e. sym c.kind_of.ensures ∙ e in
     let is_named : names c.operand_of-operand.result (part_at c.args.nodes.now (c.args.at + 1)) ≡ true = sym c.named.ensures ∙ c.if-not-named.false in
     let gave : GaveUp c.args.area.now c.if-contains.area c.args.base (attempted c.args.slotted c.operand_of-operand.result (part_at c.args.nodes.now (c.args.at + 1)) (resumed c.args.labels) c.args.assumed c.args.unknown) = let up : List ℕ → Type 0 = λ z. GaveUp c.args.area.now z c.args.base (attempted c.args.slotted c.operand_of-operand.result (part_at c.args.nodes.now (c.args.at + 1)) (resumed c.args.labels) c.args.assumed c.args.unknown) in
       let key = (kind_is 5 c.in-5.is) in
-      ⊎_elim
-      (λ w. subst up (sym w.12) (gave_up c.requires.1.ready key c.operand_of-operand.result c.operand_of-operand.ensures c.args.slotted (resumed c.args.labels) c.args.assumed c.args.unknown
-      (sym c.contains.ensures ∙ w.0.taken) w.6.result w.1.result w.6.ensures w.1.ensures
-      (changed_child _ _ _ _ _ _ _ (Local c.operand_of-operand.result w.6.result) (child_signal c.requires.1.ready (kind_is 5 c.in-5.is)) w.3.ensures w.8.ensures) w.11.left))
-      (λ w. subst up (sym w.1) (not_tried c.requires.1.ready key c.operand_of-operand.result c.operand_of-operand.ensures c.args.slotted (resumed c.args.labels) c.args.assumed c.args.unknown
-      c.args.area.now c.args.base (sym c.contains.ensures ∙ w.0.left)))
-      c.if-contains.came in
+      elim c.if-contains.branch [
+      then-contains+else-m-ne-OVER w ↦
+      subst up (sym w.area-is) (gave_up c.requires.1.ready key c.operand_of-operand.result c.operand_of-operand.ensures c.args.slotted (resumed c.args.labels) c.args.assumed c.args.unknown
+      (sym c.contains.ensures ∙ w.if-contains.true) w.slot_of-slot.result w.with-more.result w.slot_of-slot.ensures w.with-more.ensures
+      (changed_child _ _ _ _ _ _ _ (Local c.operand_of-operand.result w.slot_of-slot.result) (child_signal c.requires.1.ready (kind_is 5 c.in-5.is)) w.resume-n.ensures w.hide_unknown-m.ensures) w.if-m-ne-OVER.false)
+      | else-contains w ↦ subst up (sym w.area-is) (not_tried c.requires.1.ready key c.operand_of-operand.result c.operand_of-operand.ensures c.args.slotted (resumed c.args.labels) c.args.assumed c.args.unknown
+      c.args.area.now c.args.base (sym c.contains.ensures ∙ w.if-contains.false))
+      ] in
     let key = (kind_is 5 c.in-5.is) in
       signal_passed c.requires.1.ready key c.operand_of-operand.result c.operand_of-operand.ensures c.args.slotted (resumed c.args.labels) c.args.assumed c.args.unknown
       is_named gave (c.args.base + room_for (part_at c.args.nodes.now c.args.at)) c.if-unknown-ne0.true (signal_given_up c.requires.1.ready c.args.labels key met)
@@ -174,18 +176,19 @@ pub resume-n-requires-in-5 : goal.resume-n-requires-in-5
 resume-n-requires-in-5 t c =
     let Below : ℕ → Type 0 = λ i. Child c.requires.1.ready.count c.args.nodes.now c.args.at i in
     let falls_to : (i : ℕ) → Below i → depth (part_at c.args.nodes.now i) < t = λ i k. omega (arith, c.decreases, k.less) in
-    let changed_child : (i : ℕ) (a b c₂ : List ℕ) (n r : ℕ) (v : CappedRows) → (f : Change) Below i → Made a b c.args.base (c.args.base + room_for (part_at c.args.nodes.now i)) v n
+    let changed_child : (i : ℕ) (a b c₂ : List ℕ) (n r : ℕ) (v : CappedRows) → (f : Change) → Below i → Made a b c.args.base (c.args.base + room_for (part_at c.args.nodes.now i)) v n
       → Altered f b c₂ c.args.base n r → Made a c₂ c.args.base (c.args.base + room_for (part_at c.args.nodes.now c.args.at)) (change_rows (change f) v) r = λ i a b c₂ n r v f k m x. altered f (child_made k m) x in
     let kind_is : (n : ℕ) → c.kind_of.result ≡ n → kind_of_node (get_or c.args.nodes.now c.args.at 0) ≡ n = λ n e. sym c.kind_of.ensures ∙ e in
     let gave : GaveUp c.args.area.now c.if-contains.area c.args.base (attempted c.args.slotted c.operand_of-operand.result (part_at c.args.nodes.now (c.args.at + 1)) (resumed c.args.labels) c.args.assumed c.args.unknown) = let up : List ℕ → Type 0 = λ z. GaveUp c.args.area.now z c.args.base (attempted c.args.slotted c.operand_of-operand.result (part_at c.args.nodes.now (c.args.at + 1)) (resumed c.args.labels) c.args.assumed c.args.unknown) in
       let key = (kind_is 5 c.in-5.is) in
-      ⊎_elim
-      (λ w. subst up (sym w.12) (gave_up c.requires.1.ready key c.operand_of-operand.result c.operand_of-operand.ensures c.args.slotted (resumed c.args.labels) c.args.assumed c.args.unknown
-      (sym c.contains.ensures ∙ w.0.taken) w.6.result w.1.result w.6.ensures w.1.ensures
-      (changed_child _ _ _ _ _ _ _ (Local c.operand_of-operand.result w.6.result) (child_signal c.requires.1.ready (kind_is 5 c.in-5.is)) w.3.ensures w.8.ensures) w.11.left))
-      (λ w. subst up (sym w.1) (not_tried c.requires.1.ready key c.operand_of-operand.result c.operand_of-operand.ensures c.args.slotted (resumed c.args.labels) c.args.assumed c.args.unknown
-      c.args.area.now c.args.base (sym c.contains.ensures ∙ w.0.left)))
-      c.if-contains.came in
+      elim c.if-contains.branch [
+      then-contains+else-m-ne-OVER w ↦
+      subst up (sym w.area-is) (gave_up c.requires.1.ready key c.operand_of-operand.result c.operand_of-operand.ensures c.args.slotted (resumed c.args.labels) c.args.assumed c.args.unknown
+      (sym c.contains.ensures ∙ w.if-contains.true) w.slot_of-slot.result w.with-more.result w.slot_of-slot.ensures w.with-more.ensures
+      (changed_child _ _ _ _ _ _ _ (Local c.operand_of-operand.result w.slot_of-slot.result) (child_signal c.requires.1.ready (kind_is 5 c.in-5.is)) w.resume-n.ensures w.hide_unknown-m.ensures) w.if-m-ne-OVER.false)
+      | else-contains w ↦ subst up (sym w.area-is) (not_tried c.requires.1.ready key c.operand_of-operand.result c.operand_of-operand.ensures c.args.slotted (resumed c.args.labels) c.args.assumed c.args.unknown
+      c.args.area.now c.args.base (sym c.contains.ensures ∙ w.if-contains.false))
+      ] in
     let still_short : c.args.base ≤ length c.if-contains.area = omega (arith, c.requires.0, gave.same) in
     (falls_to _ (child_signal c.requires.1.ready (kind_is 5 c.in-5.is)), (still_short, resumable_at c.requires.1 (child_signal c.requires.1.ready (kind_is 5 c.in-5.is)), slotted_none c.requires.2))
 
@@ -196,18 +199,19 @@ hide_signal-n1-requires t c =
 pub above-top-requires : goal.above-top-requires
 above-top-requires t c =
     let Below : ℕ → Type 0 = λ i. Child c.requires.1.ready.count c.args.nodes.now c.args.at i in
-    let changed_child : (i : ℕ) (a b c₂ : List ℕ) (n r : ℕ) (v : CappedRows) → (f : Change) Below i → Made a b c.args.base (c.args.base + room_for (part_at c.args.nodes.now i)) v n
+    let changed_child : (i : ℕ) (a b c₂ : List ℕ) (n r : ℕ) (v : CappedRows) → (f : Change) → Below i → Made a b c.args.base (c.args.base + room_for (part_at c.args.nodes.now i)) v n
       → Altered f b c₂ c.args.base n r → Made a c₂ c.args.base (c.args.base + room_for (part_at c.args.nodes.now c.args.at)) (change_rows (change f) v) r = λ i a b c₂ n r v f k m x. altered f (child_made k m) x in
     let kind_is : (n : ℕ) → c.kind_of.result ≡ n → kind_of_node (get_or c.args.nodes.now c.args.at 0) ≡ n = λ n e. sym c.kind_of.ensures ∙ e in
     let gave : GaveUp c.args.area.now c.if-contains.area c.args.base (attempted c.args.slotted c.operand_of-operand.result (part_at c.args.nodes.now (c.args.at + 1)) (resumed c.args.labels) c.args.assumed c.args.unknown) = let up : List ℕ → Type 0 = λ z. GaveUp c.args.area.now z c.args.base (attempted c.args.slotted c.operand_of-operand.result (part_at c.args.nodes.now (c.args.at + 1)) (resumed c.args.labels) c.args.assumed c.args.unknown) in
       let key = (kind_is 5 c.in-5.is) in
-      ⊎_elim
-      (λ w. subst up (sym w.12) (gave_up c.requires.1.ready key c.operand_of-operand.result c.operand_of-operand.ensures c.args.slotted (resumed c.args.labels) c.args.assumed c.args.unknown
-      (sym c.contains.ensures ∙ w.0.taken) w.6.result w.1.result w.6.ensures w.1.ensures
-      (changed_child _ _ _ _ _ _ _ (Local c.operand_of-operand.result w.6.result) (child_signal c.requires.1.ready (kind_is 5 c.in-5.is)) w.3.ensures w.8.ensures) w.11.left))
-      (λ w. subst up (sym w.1) (not_tried c.requires.1.ready key c.operand_of-operand.result c.operand_of-operand.ensures c.args.slotted (resumed c.args.labels) c.args.assumed c.args.unknown
-      c.args.area.now c.args.base (sym c.contains.ensures ∙ w.0.left)))
-      c.if-contains.came in
+      elim c.if-contains.branch [
+      then-contains+else-m-ne-OVER w ↦
+      subst up (sym w.area-is) (gave_up c.requires.1.ready key c.operand_of-operand.result c.operand_of-operand.ensures c.args.slotted (resumed c.args.labels) c.args.assumed c.args.unknown
+      (sym c.contains.ensures ∙ w.if-contains.true) w.slot_of-slot.result w.with-more.result w.slot_of-slot.ensures w.with-more.ensures
+      (changed_child _ _ _ _ _ _ _ (Local c.operand_of-operand.result w.slot_of-slot.result) (child_signal c.requires.1.ready (kind_is 5 c.in-5.is)) w.resume-n.ensures w.hide_unknown-m.ensures) w.if-m-ne-OVER.false)
+      | else-contains w ↦ subst up (sym w.area-is) (not_tried c.requires.1.ready key c.operand_of-operand.result c.operand_of-operand.ensures c.args.slotted (resumed c.args.labels) c.args.assumed c.args.unknown
+      c.args.area.now c.args.base (sym c.contains.ensures ∙ w.if-contains.false))
+      ] in
     let still_short : c.args.base ≤ length c.if-contains.area = omega (arith, c.requires.0, gave.same) in
     let b = (child_signal c.requires.1.ready (kind_is 5 c.in-5.is)) in
       let m = changed_child _ _ _ _ _ _ _ (Hide c.operand_of-operand.result) b c.resume-n-in-5.ensures c.hide_signal-n1.ensures in
@@ -228,7 +232,7 @@ resume-n2-requires t c =
 pub either-requires : goal.either-requires
 either-requires t c =
     let Below : ℕ → Type 0 = λ i. Child c.requires.1.ready.count c.args.nodes.now c.args.at i in
-    let changed_child : (i : ℕ) (a b c₂ : List ℕ) (n r : ℕ) (v : CappedRows) → (f : Change) Below i → Made a b c.args.base (c.args.base + room_for (part_at c.args.nodes.now i)) v n
+    let changed_child : (i : ℕ) (a b c₂ : List ℕ) (n r : ℕ) (v : CappedRows) → (f : Change) → Below i → Made a b c.args.base (c.args.base + room_for (part_at c.args.nodes.now i)) v n
       → Altered f b c₂ c.args.base n r → Made a c₂ c.args.base (c.args.base + room_for (part_at c.args.nodes.now c.args.at)) (change_rows (change f) v) r = λ i a b c₂ n r v f k m x. altered f (child_made k m) x in
     let kind_is : (n : ℕ) → c.kind_of.result ≡ n → kind_of_node (get_or c.args.nodes.now c.args.at 0) ≡ n = λ n e. sym c.kind_of.ensures ∙ e in
     let b = (child_signal c.requires.1.ready (kind_is 5 c.in-5.is)) in
@@ -463,19 +467,20 @@ returns-in-4 t c =
 pub returns-else-unknown-ne0 : goal.returns-else-unknown-ne0
 returns-else-unknown-ne0 t c =
     let Below : ℕ → Type 0 = λ i. Child c.requires.1.ready.count c.args.nodes.now c.args.at i in
-    let changed_child : (i : ℕ) (a b c₂ : List ℕ) (n r : ℕ) (v : CappedRows) → (f : Change) Below i → Made a b c.args.base (c.args.base + room_for (part_at c.args.nodes.now i)) v n
+    let changed_child : (i : ℕ) (a b c₂ : List ℕ) (n r : ℕ) (v : CappedRows) → (f : Change) → Below i → Made a b c.args.base (c.args.base + room_for (part_at c.args.nodes.now i)) v n
       → Altered f b c₂ c.args.base n r → Made a c₂ c.args.base (c.args.base + room_for (part_at c.args.nodes.now c.args.at)) (change_rows (change f) v) r = λ i a b c₂ n r v f k m x. altered f (child_made k m) x in
     let kind_is : (n : ℕ) → c.kind_of.result ≡ n → kind_of_node (get_or c.args.nodes.now c.args.at 0) ≡ n = λ n e. sym c.kind_of.ensures ∙ e in
     let is_named : names c.operand_of-operand.result (part_at c.args.nodes.now (c.args.at + 1)) ≡ true = sym c.named.ensures ∙ c.if-not-named.false in
     let gave : GaveUp c.args.area.now c.if-contains.area c.args.base (attempted c.args.slotted c.operand_of-operand.result (part_at c.args.nodes.now (c.args.at + 1)) (resumed c.args.labels) c.args.assumed c.args.unknown) = let up : List ℕ → Type 0 = λ z. GaveUp c.args.area.now z c.args.base (attempted c.args.slotted c.operand_of-operand.result (part_at c.args.nodes.now (c.args.at + 1)) (resumed c.args.labels) c.args.assumed c.args.unknown) in
       let key = (kind_is 5 c.in-5.is) in
-      ⊎_elim
-      (λ w. subst up (sym w.12) (gave_up c.requires.1.ready key c.operand_of-operand.result c.operand_of-operand.ensures c.args.slotted (resumed c.args.labels) c.args.assumed c.args.unknown
-      (sym c.contains.ensures ∙ w.0.taken) w.6.result w.1.result w.6.ensures w.1.ensures
-      (changed_child _ _ _ _ _ _ _ (Local c.operand_of-operand.result w.6.result) (child_signal c.requires.1.ready (kind_is 5 c.in-5.is)) w.3.ensures w.8.ensures) w.11.left))
-      (λ w. subst up (sym w.1) (not_tried c.requires.1.ready key c.operand_of-operand.result c.operand_of-operand.ensures c.args.slotted (resumed c.args.labels) c.args.assumed c.args.unknown
-      c.args.area.now c.args.base (sym c.contains.ensures ∙ w.0.left)))
-      c.if-contains.came in
+      elim c.if-contains.branch [
+      then-contains+else-m-ne-OVER w ↦
+      subst up (sym w.area-is) (gave_up c.requires.1.ready key c.operand_of-operand.result c.operand_of-operand.ensures c.args.slotted (resumed c.args.labels) c.args.assumed c.args.unknown
+      (sym c.contains.ensures ∙ w.if-contains.true) w.slot_of-slot.result w.with-more.result w.slot_of-slot.ensures w.with-more.ensures
+      (changed_child _ _ _ _ _ _ _ (Local c.operand_of-operand.result w.slot_of-slot.result) (child_signal c.requires.1.ready (kind_is 5 c.in-5.is)) w.resume-n.ensures w.hide_unknown-m.ensures) w.if-m-ne-OVER.false)
+      | else-contains w ↦ subst up (sym w.area-is) (not_tried c.requires.1.ready key c.operand_of-operand.result c.operand_of-operand.ensures c.args.slotted (resumed c.args.labels) c.args.assumed c.args.unknown
+      c.args.area.now c.args.base (sym c.contains.ensures ∙ w.if-contains.false))
+      ] in
     let still_short : c.args.base ≤ length c.if-contains.area = omega (arith, c.requires.0, gave.same) in
     let b = (child_signal c.requires.1.ready (kind_is 5 c.in-5.is)) in
       let m = changed_child _ _ _ _ _ _ _ (Hide c.operand_of-operand.result) b c.resume-n-in-5.ensures c.hide_signal-n1.ensures in
@@ -534,7 +539,7 @@ shape_of-area-in-9 t c =
 pub returns-in-10 : goal.returns-in-10
 returns-in-10 t c =
     let Below : ℕ → Type 0 = λ i. Child c.requires.1.ready.count c.args.nodes.now c.args.at i in
-    let changed_child : (i : ℕ) (a b c₂ : List ℕ) (n r : ℕ) (v : CappedRows) → (f : Change) Below i → Made a b c.args.base (c.args.base + room_for (part_at c.args.nodes.now i)) v n
+    let changed_child : (i : ℕ) (a b c₂ : List ℕ) (n r : ℕ) (v : CappedRows) → (f : Change) → Below i → Made a b c.args.base (c.args.base + room_for (part_at c.args.nodes.now i)) v n
       → Altered f b c₂ c.args.base n r → Made a c₂ c.args.base (c.args.base + room_for (part_at c.args.nodes.now c.args.at)) (change_rows (change f) v) r = λ i a b c₂ n r v f k m x. altered f (child_made k m) x in
     let kind_is : (n : ℕ) → c.kind_of.result ≡ n → kind_of_node (get_or c.args.nodes.now c.args.at 0) ≡ n = λ n e. sym c.kind_of.ensures ∙ e in
     list_try c.requires.1.ready c.args.slotted c.args.assumed c.args.unknown (resumed c.args.labels) c.requires.2.within (kind_is 10 c.in-10.is) (changed_child _ _ _ _ _ _ _ Caught (child_try c.requires.1.ready (kind_is 10 c.in-10.is)) c.resume-n-in-10.ensures c.catch_exits.ensures)
@@ -546,7 +551,7 @@ shape_of-area-in-10 t c =
 pub returns-in-11-to-15 : goal.returns-in-11-to-15
 returns-in-11-to-15 t c =
     absurd (not_known c.args.nodes.now c.args.at _ c.requires.1.ready.known c.kind_of.ensures
-      (none_of_kinds c.kind_of.result (omega arith)))
+      (omega arith))
 
 pub returns-in_default : goal.returns-in_default
 returns-in_default t c =

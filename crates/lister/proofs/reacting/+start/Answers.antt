@@ -33,6 +33,7 @@ use Rattle.lister.proofs.Signals.{attempted, GaveUp, start_given_up, signal_unna
 use Rattle.lister.proofs.Starts.{Child, place_few, emits_narrow, ready_at, child_signal, child_present, child_else, child_sequence, child_then, child_parallel, child_beside, child_loop, child_try}
 use Rattle.lister.proofs.Starts.{list_nothing, list_pause, list_gotopause, list_emit, list_exit, list_loop, list_try, list_then, list_else, list_tested, list_sequence, list_parallel}
 use Rattle.lister.proofs.reacting.+start.Goals as goal
+use Rattle.lister.proofs.reacting.+start.Goals.{then-contains+else-m-ne-OVER, else-contains}
 
 pub returns-then-base-area : goal.returns-then-base-area
 returns-then-base-area t c =
@@ -144,7 +145,7 @@ returns-then-m-ne-OVER t c =
     let Below : ℕ → Type 0 = λ i. Child c.requires.1.count c.args.nodes.now c.args.at i in
     let less_room : (i : ℕ) → Below i → c.args.base + 128 + room_for (part_at c.args.nodes.now i) ≤ (c.args.base + room_for (part_at c.args.nodes.now c.args.at)) = λ i k. omega (arith, k.less) in
     let within_room : (i : ℕ) (a b : List ℕ) (n : ℕ) (v : CappedRows) → Below i → Made a b c.args.base (c.args.base + room_for (part_at c.args.nodes.now i)) v n → Made a b c.args.base (c.args.base + room_for (part_at c.args.nodes.now c.args.at)) v n = λ i a b n v k m. made_need (c.args.base + room_for (part_at c.args.nodes.now c.args.at)) m (let h = less_room _ k in omega arith) in
-    let changed_child : (i : ℕ) (a b c₂ : List ℕ) (n r : ℕ) (v : CappedRows) → (f : Change) Below i → Made a b c.args.base (c.args.base + room_for (part_at c.args.nodes.now i)) v n
+    let changed_child : (i : ℕ) (a b c₂ : List ℕ) (n r : ℕ) (v : CappedRows) → (f : Change) → Below i → Made a b c.args.base (c.args.base + room_for (part_at c.args.nodes.now i)) v n
       → Altered f b c₂ c.args.base n r → Made a c₂ c.args.base (c.args.base + room_for (part_at c.args.nodes.now c.args.at)) (change_rows (change f) v) r = λ i a b c₂ n r v f k m x. altered f (within_room _ _ _ _ _ k m) x in
     let kind_is : (n : ℕ) → c.kind_of.result ≡ n → kind_of_node (get_or c.args.nodes.now c.args.at 0) ≡ n = λ n e. sym c.kind_of.ensures ∙ e in
     let is_named : names c.operand_of-operand.result (part_at c.args.nodes.now (c.args.at + 1)) ≡ true = sym c.named.ensures ∙ c.if-not-named.false in
@@ -161,17 +162,18 @@ returns-then-unknown-ne0 t c =
     let Below : ℕ → Type 0 = λ i. Child c.requires.1.count c.args.nodes.now c.args.at i in
     let less_room : (i : ℕ) → Below i → c.args.base + 128 + room_for (part_at c.args.nodes.now i) ≤ (c.args.base + room_for (part_at c.args.nodes.now c.args.at)) = λ i k. omega (arith, k.less) in
     let within_room : (i : ℕ) (a b : List ℕ) (n : ℕ) (v : CappedRows) → Below i → Made a b c.args.base (c.args.base + room_for (part_at c.args.nodes.now i)) v n → Made a b c.args.base (c.args.base + room_for (part_at c.args.nodes.now c.args.at)) v n = λ i a b n v k m. made_need (c.args.base + room_for (part_at c.args.nodes.now c.args.at)) m (let h = less_room _ k in omega arith) in
-    let changed_child : (i : ℕ) (a b c₂ : List ℕ) (n r : ℕ) (v : CappedRows) → (f : Change) Below i → Made a b c.args.base (c.args.base + room_for (part_at c.args.nodes.now i)) v n
+    let changed_child : (i : ℕ) (a b c₂ : List ℕ) (n r : ℕ) (v : CappedRows) → (f : Change) → Below i → Made a b c.args.base (c.args.base + room_for (part_at c.args.nodes.now i)) v n
       → Altered f b c₂ c.args.base n r → Made a c₂ c.args.base (c.args.base + room_for (part_at c.args.nodes.now c.args.at)) (change_rows (change f) v) r = λ i a b c₂ n r v f k m x. altered f (within_room _ _ _ _ _ k m) x in
     let kind_is : (n : ℕ) → c.kind_of.result ≡ n → kind_of_node (get_or c.args.nodes.now c.args.at 0) ≡ n = λ n e. sym c.kind_of.ensures ∙ e in
     let is_named : names c.operand_of-operand.result (part_at c.args.nodes.now (c.args.at + 1)) ≡ true = sym c.named.ensures ∙ c.if-not-named.false in
     let gave : GaveUp c.args.area.now c.if-contains.area c.args.base (attempted c.args.slotted c.operand_of-operand.result (part_at c.args.nodes.now (c.args.at + 1)) started c.args.assumed c.args.unknown) = let up : List ℕ → Type 0 = λ z. GaveUp c.args.area.now z c.args.base (attempted c.args.slotted c.operand_of-operand.result (part_at c.args.nodes.now (c.args.at + 1)) started c.args.assumed c.args.unknown) in
       let key = (kind_is 5 c.in-5.is) in
-      ⊎_elim
-      (λ w. subst up (sym w.12) (gave_up c.requires.1 key c.operand_of-operand.result c.operand_of-operand.ensures c.args.slotted started c.args.assumed c.args.unknown (sym c.contains.ensures ∙ w.0.taken)
-      w.6.result w.1.result w.6.ensures w.1.ensures (changed_child _ _ _ _ _ _ _ (Local c.operand_of-operand.result w.6.result) (child_signal c.requires.1 (kind_is 5 c.in-5.is)) w.3.ensures w.8.ensures) w.11.left))
-      (λ w. subst up (sym w.1) (not_tried c.requires.1 key c.operand_of-operand.result c.operand_of-operand.ensures c.args.slotted started c.args.assumed c.args.unknown c.args.area.now c.args.base (sym c.contains.ensures ∙ w.0.left)))
-      c.if-contains.came in
+      elim c.if-contains.branch [
+      then-contains+else-m-ne-OVER w ↦
+      subst up (sym w.area-is) (gave_up c.requires.1 key c.operand_of-operand.result c.operand_of-operand.ensures c.args.slotted started c.args.assumed c.args.unknown (sym c.contains.ensures ∙ w.if-contains.true)
+      w.slot_of-slot.result w.with-more.result w.slot_of-slot.ensures w.with-more.ensures (changed_child _ _ _ _ _ _ _ (Local c.operand_of-operand.result w.slot_of-slot.result) (child_signal c.requires.1 (kind_is 5 c.in-5.is)) w.start-n.ensures w.hide_unknown-m.ensures) w.if-m-ne-OVER.false)
+      | else-contains w ↦ subst up (sym w.area-is) (not_tried c.requires.1 key c.operand_of-operand.result c.operand_of-operand.ensures c.args.slotted started c.args.assumed c.args.unknown c.args.area.now c.args.base (sym c.contains.ensures ∙ w.if-contains.false))
+      ] in
     signal_passed c.requires.1 (kind_is 5 c.in-5.is) c.operand_of-operand.result c.operand_of-operand.ensures c.args.slotted started c.args.assumed c.args.unknown
       is_named gave (c.args.base + room_for (part_at c.args.nodes.now c.args.at)) c.if-unknown-ne0.true (start_given_up (part_at c.args.nodes.now (c.args.at + 1)))
 
@@ -190,16 +192,17 @@ start-n-requires-in-5 t c =
     let falls_to : (i : ℕ) → Below i → depth (part_at c.args.nodes.now i) < t = λ i k. omega (arith, c.decreases, k.less) in
     let less_room : (i : ℕ) → Below i → c.args.base + 128 + room_for (part_at c.args.nodes.now i) ≤ (c.args.base + room_for (part_at c.args.nodes.now c.args.at)) = λ i k. omega (arith, k.less) in
     let within_room : (i : ℕ) (a b : List ℕ) (n : ℕ) (v : CappedRows) → Below i → Made a b c.args.base (c.args.base + room_for (part_at c.args.nodes.now i)) v n → Made a b c.args.base (c.args.base + room_for (part_at c.args.nodes.now c.args.at)) v n = λ i a b n v k m. made_need (c.args.base + room_for (part_at c.args.nodes.now c.args.at)) m (let h = less_room _ k in omega arith) in
-    let changed_child : (i : ℕ) (a b c₂ : List ℕ) (n r : ℕ) (v : CappedRows) → (f : Change) Below i → Made a b c.args.base (c.args.base + room_for (part_at c.args.nodes.now i)) v n
+    let changed_child : (i : ℕ) (a b c₂ : List ℕ) (n r : ℕ) (v : CappedRows) → (f : Change) → Below i → Made a b c.args.base (c.args.base + room_for (part_at c.args.nodes.now i)) v n
       → Altered f b c₂ c.args.base n r → Made a c₂ c.args.base (c.args.base + room_for (part_at c.args.nodes.now c.args.at)) (change_rows (change f) v) r = λ i a b c₂ n r v f k m x. altered f (within_room _ _ _ _ _ k m) x in
     let kind_is : (n : ℕ) → c.kind_of.result ≡ n → kind_of_node (get_or c.args.nodes.now c.args.at 0) ≡ n = λ n e. sym c.kind_of.ensures ∙ e in
     let gave : GaveUp c.args.area.now c.if-contains.area c.args.base (attempted c.args.slotted c.operand_of-operand.result (part_at c.args.nodes.now (c.args.at + 1)) started c.args.assumed c.args.unknown) = let up : List ℕ → Type 0 = λ z. GaveUp c.args.area.now z c.args.base (attempted c.args.slotted c.operand_of-operand.result (part_at c.args.nodes.now (c.args.at + 1)) started c.args.assumed c.args.unknown) in
       let key = (kind_is 5 c.in-5.is) in
-      ⊎_elim
-      (λ w. subst up (sym w.12) (gave_up c.requires.1 key c.operand_of-operand.result c.operand_of-operand.ensures c.args.slotted started c.args.assumed c.args.unknown (sym c.contains.ensures ∙ w.0.taken)
-      w.6.result w.1.result w.6.ensures w.1.ensures (changed_child _ _ _ _ _ _ _ (Local c.operand_of-operand.result w.6.result) (child_signal c.requires.1 (kind_is 5 c.in-5.is)) w.3.ensures w.8.ensures) w.11.left))
-      (λ w. subst up (sym w.1) (not_tried c.requires.1 key c.operand_of-operand.result c.operand_of-operand.ensures c.args.slotted started c.args.assumed c.args.unknown c.args.area.now c.args.base (sym c.contains.ensures ∙ w.0.left)))
-      c.if-contains.came in
+      elim c.if-contains.branch [
+      then-contains+else-m-ne-OVER w ↦
+      subst up (sym w.area-is) (gave_up c.requires.1 key c.operand_of-operand.result c.operand_of-operand.ensures c.args.slotted started c.args.assumed c.args.unknown (sym c.contains.ensures ∙ w.if-contains.true)
+      w.slot_of-slot.result w.with-more.result w.slot_of-slot.ensures w.with-more.ensures (changed_child _ _ _ _ _ _ _ (Local c.operand_of-operand.result w.slot_of-slot.result) (child_signal c.requires.1 (kind_is 5 c.in-5.is)) w.start-n.ensures w.hide_unknown-m.ensures) w.if-m-ne-OVER.false)
+      | else-contains w ↦ subst up (sym w.area-is) (not_tried c.requires.1 key c.operand_of-operand.result c.operand_of-operand.ensures c.args.slotted started c.args.assumed c.args.unknown c.args.area.now c.args.base (sym c.contains.ensures ∙ w.if-contains.false))
+      ] in
     let still_short : c.args.base ≤ length c.if-contains.area = omega (arith, c.requires.0, gave.same) in
     (falls_to _ (child_signal c.requires.1 (kind_is 5 c.in-5.is)), (still_short, ready_at c.requires.1 (child_signal c.requires.1 (kind_is 5 c.in-5.is)), slotted_none c.requires.2))
 
@@ -212,16 +215,17 @@ above-top-requires t c =
     let Below : ℕ → Type 0 = λ i. Child c.requires.1.count c.args.nodes.now c.args.at i in
     let less_room : (i : ℕ) → Below i → c.args.base + 128 + room_for (part_at c.args.nodes.now i) ≤ (c.args.base + room_for (part_at c.args.nodes.now c.args.at)) = λ i k. omega (arith, k.less) in
     let within_room : (i : ℕ) (a b : List ℕ) (n : ℕ) (v : CappedRows) → Below i → Made a b c.args.base (c.args.base + room_for (part_at c.args.nodes.now i)) v n → Made a b c.args.base (c.args.base + room_for (part_at c.args.nodes.now c.args.at)) v n = λ i a b n v k m. made_need (c.args.base + room_for (part_at c.args.nodes.now c.args.at)) m (let h = less_room _ k in omega arith) in
-    let changed_child : (i : ℕ) (a b c₂ : List ℕ) (n r : ℕ) (v : CappedRows) → (f : Change) Below i → Made a b c.args.base (c.args.base + room_for (part_at c.args.nodes.now i)) v n
+    let changed_child : (i : ℕ) (a b c₂ : List ℕ) (n r : ℕ) (v : CappedRows) → (f : Change) → Below i → Made a b c.args.base (c.args.base + room_for (part_at c.args.nodes.now i)) v n
       → Altered f b c₂ c.args.base n r → Made a c₂ c.args.base (c.args.base + room_for (part_at c.args.nodes.now c.args.at)) (change_rows (change f) v) r = λ i a b c₂ n r v f k m x. altered f (within_room _ _ _ _ _ k m) x in
     let kind_is : (n : ℕ) → c.kind_of.result ≡ n → kind_of_node (get_or c.args.nodes.now c.args.at 0) ≡ n = λ n e. sym c.kind_of.ensures ∙ e in
     let gave : GaveUp c.args.area.now c.if-contains.area c.args.base (attempted c.args.slotted c.operand_of-operand.result (part_at c.args.nodes.now (c.args.at + 1)) started c.args.assumed c.args.unknown) = let up : List ℕ → Type 0 = λ z. GaveUp c.args.area.now z c.args.base (attempted c.args.slotted c.operand_of-operand.result (part_at c.args.nodes.now (c.args.at + 1)) started c.args.assumed c.args.unknown) in
       let key = (kind_is 5 c.in-5.is) in
-      ⊎_elim
-      (λ w. subst up (sym w.12) (gave_up c.requires.1 key c.operand_of-operand.result c.operand_of-operand.ensures c.args.slotted started c.args.assumed c.args.unknown (sym c.contains.ensures ∙ w.0.taken)
-      w.6.result w.1.result w.6.ensures w.1.ensures (changed_child _ _ _ _ _ _ _ (Local c.operand_of-operand.result w.6.result) (child_signal c.requires.1 (kind_is 5 c.in-5.is)) w.3.ensures w.8.ensures) w.11.left))
-      (λ w. subst up (sym w.1) (not_tried c.requires.1 key c.operand_of-operand.result c.operand_of-operand.ensures c.args.slotted started c.args.assumed c.args.unknown c.args.area.now c.args.base (sym c.contains.ensures ∙ w.0.left)))
-      c.if-contains.came in
+      elim c.if-contains.branch [
+      then-contains+else-m-ne-OVER w ↦
+      subst up (sym w.area-is) (gave_up c.requires.1 key c.operand_of-operand.result c.operand_of-operand.ensures c.args.slotted started c.args.assumed c.args.unknown (sym c.contains.ensures ∙ w.if-contains.true)
+      w.slot_of-slot.result w.with-more.result w.slot_of-slot.ensures w.with-more.ensures (changed_child _ _ _ _ _ _ _ (Local c.operand_of-operand.result w.slot_of-slot.result) (child_signal c.requires.1 (kind_is 5 c.in-5.is)) w.start-n.ensures w.hide_unknown-m.ensures) w.if-m-ne-OVER.false)
+      | else-contains w ↦ subst up (sym w.area-is) (not_tried c.requires.1 key c.operand_of-operand.result c.operand_of-operand.ensures c.args.slotted started c.args.assumed c.args.unknown c.args.area.now c.args.base (sym c.contains.ensures ∙ w.if-contains.false))
+      ] in
     let still_short : c.args.base ≤ length c.if-contains.area = omega (arith, c.requires.0, gave.same) in
     let m = changed_child _ _ _ _ _ _ _ (Hide c.operand_of-operand.result) (child_signal c.requires.1 (kind_is 5 c.in-5.is)) c.start-n-in-5.ensures c.hide_signal-n1.ensures in
       (omega (arith, still_short, m.same), λ h. omega (arith, m.fits h, m.same))
@@ -243,7 +247,7 @@ either-requires t c =
     let less_room : (i : ℕ) → Below i → c.args.base + 128 + room_for (part_at c.args.nodes.now i) ≤ (c.args.base + room_for (part_at c.args.nodes.now c.args.at)) = λ i k. omega (arith, k.less) in
     let wide : (i : ℕ) → Below i → c.args.base + 386 ≤ (c.args.base + room_for (part_at c.args.nodes.now c.args.at)) = λ i k. omega (arith, k.less, depth_positive (part_at c.args.nodes.now i)) in
     let within_room : (i : ℕ) (a b : List ℕ) (n : ℕ) (v : CappedRows) → Below i → Made a b c.args.base (c.args.base + room_for (part_at c.args.nodes.now i)) v n → Made a b c.args.base (c.args.base + room_for (part_at c.args.nodes.now c.args.at)) v n = λ i a b n v k m. made_need (c.args.base + room_for (part_at c.args.nodes.now c.args.at)) m (let h = less_room _ k in omega arith) in
-    let changed_child : (i : ℕ) (a b c₂ : List ℕ) (n r : ℕ) (v : CappedRows) → (f : Change) Below i → Made a b c.args.base (c.args.base + room_for (part_at c.args.nodes.now i)) v n
+    let changed_child : (i : ℕ) (a b c₂ : List ℕ) (n r : ℕ) (v : CappedRows) → (f : Change) → Below i → Made a b c.args.base (c.args.base + room_for (part_at c.args.nodes.now i)) v n
       → Altered f b c₂ c.args.base n r → Made a c₂ c.args.base (c.args.base + room_for (part_at c.args.nodes.now c.args.at)) (change_rows (change f) v) r = λ i a b c₂ n r v f k m x. altered f (within_room _ _ _ _ _ k m) x in
     let kind_is : (n : ℕ) → c.kind_of.result ≡ n → kind_of_node (get_or c.args.nodes.now c.args.at 0) ≡ n = λ n e. sym c.kind_of.ensures ∙ e in
     let b = (child_signal c.requires.1 (kind_is 5 c.in-5.is)) in
@@ -296,7 +300,7 @@ above-top-requires-then-contains-2 t c =
     let Below : ℕ → Type 0 = λ i. Child c.requires.1.count c.args.nodes.now c.args.at i in
     let less_room : (i : ℕ) → Below i → c.args.base + 128 + room_for (part_at c.args.nodes.now i) ≤ (c.args.base + room_for (part_at c.args.nodes.now c.args.at)) = λ i k. omega (arith, k.less) in
     let within_room : (i : ℕ) (a b : List ℕ) (n : ℕ) (v : CappedRows) → Below i → Made a b c.args.base (c.args.base + room_for (part_at c.args.nodes.now i)) v n → Made a b c.args.base (c.args.base + room_for (part_at c.args.nodes.now c.args.at)) v n = λ i a b n v k m. made_need (c.args.base + room_for (part_at c.args.nodes.now c.args.at)) m (let h = less_room _ k in omega arith) in
-    let changed_child : (i : ℕ) (a b c₂ : List ℕ) (n r : ℕ) (v : CappedRows) → (f : Change) Below i → Made a b c.args.base (c.args.base + room_for (part_at c.args.nodes.now i)) v n
+    let changed_child : (i : ℕ) (a b c₂ : List ℕ) (n r : ℕ) (v : CappedRows) → (f : Change) → Below i → Made a b c.args.base (c.args.base + room_for (part_at c.args.nodes.now i)) v n
       → Altered f b c₂ c.args.base n r → Made a c₂ c.args.base (c.args.base + room_for (part_at c.args.nodes.now c.args.at)) (change_rows (change f) v) r = λ i a b c₂ n r v f k m x. altered f (within_room _ _ _ _ _ k m) x in
     let kind_is : (n : ℕ) → c.kind_of.result ≡ n → kind_of_node (get_or c.args.nodes.now c.args.at 0) ≡ n = λ n e. sym c.kind_of.ensures ∙ e in
     let m = changed_child _ _ _ _ _ _ _ (Given c.on_slot.result) (child_present c.requires.1 (kind_is 6 c.in-6.is)) c.start-n-then-contains-2.ensures c.add_condition-n1.ensures in
@@ -325,7 +329,7 @@ either-requires-then-contains-2 t c =
     let less_room : (i : ℕ) → Below i → c.args.base + 128 + room_for (part_at c.args.nodes.now i) ≤ (c.args.base + room_for (part_at c.args.nodes.now c.args.at)) = λ i k. omega (arith, k.less) in
     let wide : (i : ℕ) → Below i → c.args.base + 386 ≤ (c.args.base + room_for (part_at c.args.nodes.now c.args.at)) = λ i k. omega (arith, k.less, depth_positive (part_at c.args.nodes.now i)) in
     let within_room : (i : ℕ) (a b : List ℕ) (n : ℕ) (v : CappedRows) → Below i → Made a b c.args.base (c.args.base + room_for (part_at c.args.nodes.now i)) v n → Made a b c.args.base (c.args.base + room_for (part_at c.args.nodes.now c.args.at)) v n = λ i a b n v k m. made_need (c.args.base + room_for (part_at c.args.nodes.now c.args.at)) m (let h = less_room _ k in omega arith) in
-    let changed_child : (i : ℕ) (a b c₂ : List ℕ) (n r : ℕ) (v : CappedRows) → (f : Change) Below i → Made a b c.args.base (c.args.base + room_for (part_at c.args.nodes.now i)) v n
+    let changed_child : (i : ℕ) (a b c₂ : List ℕ) (n r : ℕ) (v : CappedRows) → (f : Change) → Below i → Made a b c.args.base (c.args.base + room_for (part_at c.args.nodes.now i)) v n
       → Altered f b c₂ c.args.base n r → Made a c₂ c.args.base (c.args.base + room_for (part_at c.args.nodes.now c.args.at)) (change_rows (change f) v) r = λ i a b c₂ n r v f k m x. altered f (within_room _ _ _ _ _ k m) x in
     let kind_is : (n : ℕ) → c.kind_of.result ≡ n → kind_of_node (get_or c.args.nodes.now c.args.at 0) ≡ n = λ n e. sym c.kind_of.ensures ∙ e in
     let m = changed_child _ _ _ _ _ _ _ (Given c.on_slot.result) (child_present c.requires.1 (kind_is 6 c.in-6.is)) c.start-n-then-contains-2.ensures c.add_condition-n1.ensures in
@@ -337,7 +341,7 @@ returns-then-contains-2 t c =
     let less_room : (i : ℕ) → Below i → c.args.base + 128 + room_for (part_at c.args.nodes.now i) ≤ (c.args.base + room_for (part_at c.args.nodes.now c.args.at)) = λ i k. omega (arith, k.less) in
     let wide : (i : ℕ) → Below i → c.args.base + 386 ≤ (c.args.base + room_for (part_at c.args.nodes.now c.args.at)) = λ i k. omega (arith, k.less, depth_positive (part_at c.args.nodes.now i)) in
     let within_room : (i : ℕ) (a b : List ℕ) (n : ℕ) (v : CappedRows) → Below i → Made a b c.args.base (c.args.base + room_for (part_at c.args.nodes.now i)) v n → Made a b c.args.base (c.args.base + room_for (part_at c.args.nodes.now c.args.at)) v n = λ i a b n v k m. made_need (c.args.base + room_for (part_at c.args.nodes.now c.args.at)) m (let h = less_room _ k in omega arith) in
-    let changed_child : (i : ℕ) (a b c₂ : List ℕ) (n r : ℕ) (v : CappedRows) → (f : Change) Below i → Made a b c.args.base (c.args.base + room_for (part_at c.args.nodes.now i)) v n
+    let changed_child : (i : ℕ) (a b c₂ : List ℕ) (n r : ℕ) (v : CappedRows) → (f : Change) → Below i → Made a b c.args.base (c.args.base + room_for (part_at c.args.nodes.now i)) v n
       → Altered f b c₂ c.args.base n r → Made a c₂ c.args.base (c.args.base + room_for (part_at c.args.nodes.now c.args.at)) (change_rows (change f) v) r = λ i a b c₂ n r v f k m x. altered f (within_room _ _ _ _ _ k m) x in
     let kind_is : (n : ℕ) → c.kind_of.result ≡ n → kind_of_node (get_or c.args.nodes.now c.args.at 0) ≡ n = λ n e. sym c.kind_of.ensures ∙ e in
     let is_unknown : has c.args.unknown c.operand_of-operand.result ≡ true = sym c.contains-in-6.ensures ∙ c.if-contains-2.true in
@@ -568,17 +572,18 @@ returns-else-unknown-ne0 t c =
     let less_room : (i : ℕ) → Below i → c.args.base + 128 + room_for (part_at c.args.nodes.now i) ≤ (c.args.base + room_for (part_at c.args.nodes.now c.args.at)) = λ i k. omega (arith, k.less) in
     let wide : (i : ℕ) → Below i → c.args.base + 386 ≤ (c.args.base + room_for (part_at c.args.nodes.now c.args.at)) = λ i k. omega (arith, k.less, depth_positive (part_at c.args.nodes.now i)) in
     let within_room : (i : ℕ) (a b : List ℕ) (n : ℕ) (v : CappedRows) → Below i → Made a b c.args.base (c.args.base + room_for (part_at c.args.nodes.now i)) v n → Made a b c.args.base (c.args.base + room_for (part_at c.args.nodes.now c.args.at)) v n = λ i a b n v k m. made_need (c.args.base + room_for (part_at c.args.nodes.now c.args.at)) m (let h = less_room _ k in omega arith) in
-    let changed_child : (i : ℕ) (a b c₂ : List ℕ) (n r : ℕ) (v : CappedRows) → (f : Change) Below i → Made a b c.args.base (c.args.base + room_for (part_at c.args.nodes.now i)) v n
+    let changed_child : (i : ℕ) (a b c₂ : List ℕ) (n r : ℕ) (v : CappedRows) → (f : Change) → Below i → Made a b c.args.base (c.args.base + room_for (part_at c.args.nodes.now i)) v n
       → Altered f b c₂ c.args.base n r → Made a c₂ c.args.base (c.args.base + room_for (part_at c.args.nodes.now c.args.at)) (change_rows (change f) v) r = λ i a b c₂ n r v f k m x. altered f (within_room _ _ _ _ _ k m) x in
     let kind_is : (n : ℕ) → c.kind_of.result ≡ n → kind_of_node (get_or c.args.nodes.now c.args.at 0) ≡ n = λ n e. sym c.kind_of.ensures ∙ e in
     let is_named : names c.operand_of-operand.result (part_at c.args.nodes.now (c.args.at + 1)) ≡ true = sym c.named.ensures ∙ c.if-not-named.false in
     let gave : GaveUp c.args.area.now c.if-contains.area c.args.base (attempted c.args.slotted c.operand_of-operand.result (part_at c.args.nodes.now (c.args.at + 1)) started c.args.assumed c.args.unknown) = let up : List ℕ → Type 0 = λ z. GaveUp c.args.area.now z c.args.base (attempted c.args.slotted c.operand_of-operand.result (part_at c.args.nodes.now (c.args.at + 1)) started c.args.assumed c.args.unknown) in
       let key = (kind_is 5 c.in-5.is) in
-      ⊎_elim
-      (λ w. subst up (sym w.12) (gave_up c.requires.1 key c.operand_of-operand.result c.operand_of-operand.ensures c.args.slotted started c.args.assumed c.args.unknown (sym c.contains.ensures ∙ w.0.taken)
-      w.6.result w.1.result w.6.ensures w.1.ensures (changed_child _ _ _ _ _ _ _ (Local c.operand_of-operand.result w.6.result) (child_signal c.requires.1 (kind_is 5 c.in-5.is)) w.3.ensures w.8.ensures) w.11.left))
-      (λ w. subst up (sym w.1) (not_tried c.requires.1 key c.operand_of-operand.result c.operand_of-operand.ensures c.args.slotted started c.args.assumed c.args.unknown c.args.area.now c.args.base (sym c.contains.ensures ∙ w.0.left)))
-      c.if-contains.came in
+      elim c.if-contains.branch [
+      then-contains+else-m-ne-OVER w ↦
+      subst up (sym w.area-is) (gave_up c.requires.1 key c.operand_of-operand.result c.operand_of-operand.ensures c.args.slotted started c.args.assumed c.args.unknown (sym c.contains.ensures ∙ w.if-contains.true)
+      w.slot_of-slot.result w.with-more.result w.slot_of-slot.ensures w.with-more.ensures (changed_child _ _ _ _ _ _ _ (Local c.operand_of-operand.result w.slot_of-slot.result) (child_signal c.requires.1 (kind_is 5 c.in-5.is)) w.start-n.ensures w.hide_unknown-m.ensures) w.if-m-ne-OVER.false)
+      | else-contains w ↦ subst up (sym w.area-is) (not_tried c.requires.1 key c.operand_of-operand.result c.operand_of-operand.ensures c.args.slotted started c.args.assumed c.args.unknown c.args.area.now c.args.base (sym c.contains.ensures ∙ w.if-contains.false))
+      ] in
     let still_short : c.args.base ≤ length c.if-contains.area = omega (arith, c.requires.0, gave.same) in
     let b = (child_signal c.requires.1 (kind_is 5 c.in-5.is)) in
       let m = changed_child _ _ _ _ _ _ _ (Hide c.operand_of-operand.result) b c.start-n-in-5.ensures c.hide_signal-n1.ensures in
@@ -641,7 +646,7 @@ returns-in-9 t c =
     let Below : ℕ → Type 0 = λ i. Child c.requires.1.count c.args.nodes.now c.args.at i in
     let less_room : (i : ℕ) → Below i → c.args.base + 128 + room_for (part_at c.args.nodes.now i) ≤ (c.args.base + room_for (part_at c.args.nodes.now c.args.at)) = λ i k. omega (arith, k.less) in
     let within_room : (i : ℕ) (a b : List ℕ) (n : ℕ) (v : CappedRows) → Below i → Made a b c.args.base (c.args.base + room_for (part_at c.args.nodes.now i)) v n → Made a b c.args.base (c.args.base + room_for (part_at c.args.nodes.now c.args.at)) v n = λ i a b n v k m. made_need (c.args.base + room_for (part_at c.args.nodes.now c.args.at)) m (let h = less_room _ k in omega arith) in
-    let changed_child : (i : ℕ) (a b c₂ : List ℕ) (n r : ℕ) (v : CappedRows) → (f : Change) Below i → Made a b c.args.base (c.args.base + room_for (part_at c.args.nodes.now i)) v n
+    let changed_child : (i : ℕ) (a b c₂ : List ℕ) (n r : ℕ) (v : CappedRows) → (f : Change) → Below i → Made a b c.args.base (c.args.base + room_for (part_at c.args.nodes.now i)) v n
       → Altered f b c₂ c.args.base n r → Made a c₂ c.args.base (c.args.base + room_for (part_at c.args.nodes.now c.args.at)) (change_rows (change f) v) r = λ i a b c₂ n r v f k m x. altered f (within_room _ _ _ _ _ k m) x in
     let kind_is : (n : ℕ) → c.kind_of.result ≡ n → kind_of_node (get_or c.args.nodes.now c.args.at 0) ≡ n = λ n e. sym c.kind_of.ensures ∙ e in
     list_loop c.requires.1 c.args.slotted c.args.assumed c.args.unknown c.requires.2.within (kind_is 9 c.in-9.is) (changed_child _ _ _ _ _ _ _ Going (child_loop c.requires.1 (kind_is 9 c.in-9.is)) c.start-n-in-9.ensures c.keep_going.ensures)
@@ -655,7 +660,7 @@ returns-in-10 t c =
     let Below : ℕ → Type 0 = λ i. Child c.requires.1.count c.args.nodes.now c.args.at i in
     let less_room : (i : ℕ) → Below i → c.args.base + 128 + room_for (part_at c.args.nodes.now i) ≤ (c.args.base + room_for (part_at c.args.nodes.now c.args.at)) = λ i k. omega (arith, k.less) in
     let within_room : (i : ℕ) (a b : List ℕ) (n : ℕ) (v : CappedRows) → Below i → Made a b c.args.base (c.args.base + room_for (part_at c.args.nodes.now i)) v n → Made a b c.args.base (c.args.base + room_for (part_at c.args.nodes.now c.args.at)) v n = λ i a b n v k m. made_need (c.args.base + room_for (part_at c.args.nodes.now c.args.at)) m (let h = less_room _ k in omega arith) in
-    let changed_child : (i : ℕ) (a b c₂ : List ℕ) (n r : ℕ) (v : CappedRows) → (f : Change) Below i → Made a b c.args.base (c.args.base + room_for (part_at c.args.nodes.now i)) v n
+    let changed_child : (i : ℕ) (a b c₂ : List ℕ) (n r : ℕ) (v : CappedRows) → (f : Change) → Below i → Made a b c.args.base (c.args.base + room_for (part_at c.args.nodes.now i)) v n
       → Altered f b c₂ c.args.base n r → Made a c₂ c.args.base (c.args.base + room_for (part_at c.args.nodes.now c.args.at)) (change_rows (change f) v) r = λ i a b c₂ n r v f k m x. altered f (within_room _ _ _ _ _ k m) x in
     let kind_is : (n : ℕ) → c.kind_of.result ≡ n → kind_of_node (get_or c.args.nodes.now c.args.at 0) ≡ n = λ n e. sym c.kind_of.ensures ∙ e in
     list_try c.requires.1 c.args.slotted c.args.assumed c.args.unknown started c.requires.2.within (kind_is 10 c.in-10.is) (changed_child _ _ _ _ _ _ _ Caught (child_try c.requires.1 (kind_is 10 c.in-10.is)) c.start-n-in-10.ensures c.catch_exits.ensures)
@@ -666,7 +671,7 @@ shape_of-area-in-10 t c =
 
 pub returns-in-11-to-15 : goal.returns-in-11-to-15
 returns-in-11-to-15 t c =
-    absurd (not_known c.args.nodes.now c.args.at c.kind_of.result c.requires.1.known c.kind_of.ensures (none_of_kinds c.kind_of.result (omega arith)))
+    absurd (not_known c.args.nodes.now c.args.at c.kind_of.result c.requires.1.known c.kind_of.ensures (omega arith))
 
 pub returns-in_default : goal.returns-in_default
 returns-in_default t c =
