@@ -1,0 +1,12 @@
+-- By the state; no statement is deeper than 60.
+use Rattle.list.proofs.Findings.{state_start, state_resumed, made_in}
+use borrow.Author.Rules.{rules}
+use Rattle.list.proofs.finding.rows_in.Goals as goal
+
+pub returns-in-Start : goal.returns-in-Start
+returns-in-Start c =
+    made_in c.args.slotted _ c.args.assumed c.args.unknown (state_start c.args.state c.in-Start.is) c.requires.noted.ready.whole.shallow c.start.ensures
+
+pub returns-in-Resumed : goal.returns-in-Resumed
+returns-in-Resumed c =
+    made_in c.args.slotted _ c.args.assumed c.args.unknown (state_resumed c.args.state _ c.in-Resumed.is) c.requires.noted.ready.whole.shallow c.resume.ensures

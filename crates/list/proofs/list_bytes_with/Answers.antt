@@ -1,0 +1,24 @@
+-- The refusal is passed on; else the reactions of the area are delivered.
+use Prim.Native.Nat.{◌/◌}
+use lib.ListN.{length}
+use mathlib.Core.Path.{ap}
+use Rattle.list.specs.Answers.{fitted}
+use Rattle.list.proofs.Deliveries.{bytes_refused, bytes_as, passed_on, count_fits, count_found}
+use borrow.Author.Rules.{rules}
+use Rattle.list.proofs.list_bytes_with.Goals as goal
+
+pub returns-in_default : goal.returns-in_default
+returns-in_default c =
+    bytes_refused _ _
+    (passed_on _ c.find-answer.result c.args.area.now _ c.find-answer.ensures (length c.args.o.now / 4) (length c.args.k.now) (length c.args.l.now / 8) _ c.in_default.is)
+    _ _ _ _ c.in_default.is
+
+pub deliver_bytes-requires : goal.deliver_bytes-requires
+deliver_bytes-requires c =
+    count_fits _ c.find-answer.result c.args.area.now _ c.find-answer.ensures _ c.in-Listed.is c.requires.0
+
+pub returns : goal.returns
+returns c =
+    bytes_as c.deliver_bytes.ensures
+    (ap (fitted (length c.args.o.now / 4) (length c.args.k.now) (length c.args.l.now / 8))
+    (count_found _ c.find-answer.result c.args.area.now _ c.find-answer.ensures _ c.in-Listed.is))

@@ -1,0 +1,12 @@
+use mathlib.Core.Path.{◌≡◌, sym, ◌∙◌, subst}
+use Prim.Native.Nat.{ℕ}
+use native.Mathlib.Omega.{arith}
+use Rattle.list.specs.inner.Notes.{AllNoted}
+use Rattle.list.proofs.Passing.{Passed, one_back, passed_none, came_to, few_behind, passed_pause, passed_other}
+use Rattle.list.proofs.noting.note_all.Given as goal
+
+abbrev pub invariant-loop-at : goal.invariant-loop-at
+invariant-loop-at l = Passed l.count l.nodes l.ends l.notes l.unions l.at l.behind l.labels
+
+abbrev pub decreases-loop-at : goal.decreases-loop-at
+decreases-loop-at l = l.at

@@ -1,0 +1,7 @@
+-- The note of a kind that there is not.
+use Rattle.list.proofs.Passing.{put_as}
+use borrow.Author.Rules.{rules}
+use Rattle.list.proofs.noting.put_refused.Goals as goal
+
+pub returns : goal.returns
+returns c = put_as c.put.ensures c.note_with.ensures

@@ -1,0 +1,15 @@
+use mathlib.Core.Path.{◌∙◌}
+use Prim.Native.Nat.{ℕ, ◌*◌, ◌-◌, ◌≤◌}
+use mathlib.Core.Path.{subst}
+use mathlib.Core.List.{map}
+use Rattle.list.specs.Buffers.{spread, emitted_in}
+use Rattle.list.specs.inner.Finding.{reactions_held}
+use Rattle.list.proofs.Fills.{Filled, filled_none, filled_all, filled_bytes, spread_length, fields_length, signals_at}
+use native.Mathlib.Omega.{arith}
+use Rattle.list.proofs.writing.spell_signals.Given as goal
+
+abbrev pub invariant-loop-i : goal.invariant-loop-i
+invariant-loop-i l = (l.i ≤ l.n) × Filled (spread 4 (map emitted_in (reactions_held l.area l.n))) l.initial.o l.o (4 * l.i)
+
+abbrev pub decreases-loop-i : goal.decreases-loop-i
+decreases-loop-i l = l.n - l.i
