@@ -1,0 +1,13 @@
+use mathlib.Core.Path.{sym, ◌∙◌}
+use Prim.Native.Nat.{◌-◌, ◌≤◌}
+use native.Mathlib.Omega.{arith}
+use Rattle.lister.proofs.Starts.{place_few}
+use Rattle.step.proofs.Scanning.{Tracked, first_few, tracked_none, tracked_hidden, tracked_plain, tracked_emit, tracked_signal, tracked_all}
+use borrow.Author.Rules.{rules}
+use Rattle.step.proofs.free.emitted_with.Given as goal
+
+abbrev pub invariant-loop-next : goal.invariant-loop-next
+invariant-loop-next l = (l.next ≤ l.end) × (l.end ≤ 1024) × Tracked l.nodes l.ends l.next l.free l.until
+
+abbrev pub decreases-loop-next : goal.decreases-loop-next
+decreases-loop-next l = l.end - l.next
