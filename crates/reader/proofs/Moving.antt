@@ -4,7 +4,7 @@ use mathlib.Core.Path.{◌≡◌, refl, sym, ap, ◌∙◌}
 use mathlib.Core.Bool.{Bool, true, false, not, ◌||◌}
 use mathlib.Core.Option.{none, some}
 use mathlib.Core.List.{List, [], ◌∷◌}
-use mathlib.Core.Logic.{⊎_elim}
+use mathlib.Core.Logic.{⊎_elim, inl, inr}
 use native.Mathlib.Nat.{eq-or-lt_of_le}
 use native.Mathlib.Omega.{arith}
 use lib.ListN.{length, drop, length-drop, drop_of_length-le}
@@ -51,6 +51,17 @@ moved_met {left = left} a {b = b} B s h fs l =
 pub at_60 : (fs : List ℕ) {left : ℕ} → left ≡ 60 → length fs ≡ 60 → stack_at left fs ≡ bottom
 unfolding stack_at frames_of
 at_60 fs {left} p l = ap frames_of (drop_of_length-le fs {i = left} (omega arith))
+
+-- what is open, by its key
+pub but_bracket : (x : Opened) → (x ≡ Bracket → ⊥) → OneOf (1 ∷ 2 ∷ []) (tag_of the_type x)
+but_bracket Bracket n = absurd (n refl)
+but_bracket Ending n = inl refl
+but_bracket Otherwise n = inr refl
+
+pub but_ending : (x : Opened) → (x ≡ Ending → ⊥) → OneOf (0 ∷ 2 ∷ []) (tag_of the_type x)
+but_ending Bracket n = inl refl
+but_ending Ending n = absurd (n refl)
+but_ending Otherwise n = inr refl
 
 module _ (F : Frames → Work) where
   -- nothing is open

@@ -9,7 +9,6 @@ use native.Mathlib.Decide.{dec_le}
 use native.Mathlib.Omega.{arith}
 use lib.Dec.{ltb}
 use borrow.Author.Tests.{le-ltb, lt-ltb}
-use Rattle.esterel.specs.Statement
 use Rattle.esterel.specs.Statement.{Statement, size}
 use Rattle.table.specs.Kinds.{kinds, kind_of, row_of}
 use Rattle.table.specs.Writing.{node, nodes}

@@ -1,6 +1,5 @@
 -- `reader::make_table` meets its contract: the nodes are refused as the table of their statement is, or it has no room, or it is written.
 use mathlib.Core.Path.{refl}
-use borrow.Author.Rules.{rules}
 use Rattle.reader.proofs.Tables.{handed, nodes_refused, nodes_short, nodes_writable, nodes_written_out}
 use Rattle.reader.proofs.make_table.Goals as goal
 

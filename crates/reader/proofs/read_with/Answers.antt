@@ -1,5 +1,4 @@
 -- `reader::read_with` meets its contract: each answer goes by the verdict on the text.
-use borrow.Author.Rules.{rules}
 use Rattle.reader.proofs.Tables.{read_broken, read_outside, read_many, at_end, read_whole}
 use Rattle.reader.proofs.read_with.Goals as goal
 

@@ -2,7 +2,6 @@
 use native.Mathlib.Omega.{arith}
 use mathlib.Core.Path.{refl}
 use Rattle.reader.proofs.Held.{byte_bound}
-use borrow.Author.Rules.{rules}
 use Rattle.reader.proofs.frames.flags_number.Goals as goal
 
 pub overflow_mul-result : goal.overflow_mul-result

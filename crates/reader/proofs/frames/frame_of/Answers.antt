@@ -1,5 +1,4 @@
 -- `reader::frames::frame_of` meets its contract.
-use borrow.Author.Rules.{rules}
 use Rattle.reader.specs.inner.Held.{frame_in}
 use Rattle.reader.proofs.frames.frame_of.Goals as goal
 

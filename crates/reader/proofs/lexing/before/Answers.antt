@@ -1,7 +1,6 @@
 -- `reader::lexing::before` meets its contract.
 use mathlib.Core.Path.{sym}
 use native.Mathlib.Omega.{arith}
-use borrow.Author.Rules.{rules}
 use Rattle.reader.proofs.Bytes.{last_take, last_none}
 use Rattle.reader.proofs.lexing.before.Goals as goal
 

@@ -6,10 +6,9 @@ use lib.Dec.{eqb}
 use lib.ListN.{take}
 use Rattle.table.proofs.Bits.{below_take}
 use Rattle.reader.proofs.Bytes.{closes_tail}
-use borrow.Author.Rules.{rules}
 use Rattle.reader.proofs.lexing.closes.Goals as goal
 
 pub returns : goal.returns
 returns c =
     ap (λ (n : ℕ). eqb (n / 2 ^ (8 * (8 - c.args.count))) c.args.word) c.tail.ensures
-    ∙ closes_tail (take c.args.end c.args.text.now) c.args.word c.args.count (below_take 256 c.args.end c.args.text.now (λ i. omega (arith, c.shared_slice_known-1.given i))) c.requires.3 (omega arith)
+    ∙ closes_tail (take c.args.end c.args.text.now) c.args.word c.args.count (below_take 256 c.args.end c.args.text.now (λ i. omega (arith, c.type_inv.text i))) c.requires.3 (omega arith)

@@ -2,13 +2,9 @@
 use mathlib.Core.Path.{◌≡◌, refl, sym, ◌∙◌}
 use mathlib.Core.Bool.{true}
 use native.Mathlib.Omega.{arith}
-use borrow.Author.Tests.{not-true, not-false}
 use Rattle.text.specs.inner.Lexer.{is_digit}
 use Rattle.text.proofs.Decimal.{digit_range}
 use Rattle.reader.proofs.Numbers.{tested, no_number, some_before, number_one, two_before, three_digits, zero_then_one, number_two}
-use borrow.Author.Rules.{rules}
-
--- the last byte is a digit; and so is the one before it
 use Rattle.reader.proofs.lexing.number.Goals as goal
 
 pub returns-then-not-is_digit : goal.returns-then-not-is_digit
@@ -26,7 +22,9 @@ overflow_sub-result c =
     (digit_range _ ones_digit).0
 
 pub overflow_sub-result-then-not-is_digit-2 : goal.overflow_sub-result-then-not-is_digit-2
-overflow_sub-result-then-not-is_digit-2 c = overflow_sub-end c
+overflow_sub-result-then-not-is_digit-2 c =
+    let ones_digit : is_digit c.before-ones.result ≡ true = sym c.is_digit.ensures ∙ c.if-not-is_digit.false in
+    some_before _ _ c.requires _ _ c.before-ones.ensures refl ones_digit
 
 pub returns-then-not-is_digit-2 : goal.returns-then-not-is_digit-2
 returns-then-not-is_digit-2 c =
@@ -76,7 +74,10 @@ overflow_add-result c =
     omega arith
 
 pub overflow_sub-result-4 : goal.overflow_sub-result-4
-overflow_sub-result-4 c = overflow_sub-end-2 c
+overflow_sub-result-4 c =
+    let ones_digit : is_digit c.before-ones.result ≡ true = sym c.is_digit.ensures ∙ c.if-not-is_digit.false in
+    let tens_digit : is_digit c.before-tens.result ≡ true = sym c.is_digit-2.ensures ∙ c.if-not-is_digit-2.false in
+    two_before _ _ c.requires _ _ c.before-ones.ensures c.before-tens.ensures ones_digit tens_digit
 
 pub returns : goal.returns
 returns c =

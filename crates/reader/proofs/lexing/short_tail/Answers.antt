@@ -1,5 +1,5 @@
 -- `reader::lexing::short_tail` meets its contract: the number is that of the bytes passed.
-use Prim.Native.Nat.{ℕ, ◌-◌, ◌≤◌}
+use Prim.Native.Nat.{ℕ}
 use mathlib.Core.Path.{◌≡◌, ap, ◌∙◌}
 use native.Mathlib.Omega.{arith}
 use lib.ListN.{take}
@@ -11,11 +11,11 @@ pub loop-at-init : goal.loop-at-init
 loop-at-init c = (omega arith, tail_none c.args.text.now)
 
 pub overflow_cast-tail : goal.overflow_cast-tail
-overflow_cast-tail c = omega (arith, c.shared_slice_known-1.given c.loop-at.at)
+overflow_cast-tail c = omega (arith, c.type_inv.text c.loop-at.at)
 
 pub loop-at-preserved : goal.loop-at-preserved
 loop-at-preserved c =
-    (omega arith, tail_next c.args.text.now c.loop-at.at c.loop-at.tail (λ i. omega (arith, c.shared_slice_known-1.given i)) (omega arith) c.loop-at.invariant.1)
+    (omega arith, tail_next c.args.text.now c.loop-at.at c.loop-at.tail (λ i. omega (arith, c.type_inv.text i)) (omega arith) c.loop-at.invariant.1)
 
 pub returns : goal.returns
 returns c =

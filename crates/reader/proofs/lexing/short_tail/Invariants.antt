@@ -1,9 +1,7 @@
-use Prim.Native.Nat.{ℕ, ◌-◌, ◌≤◌}
-use mathlib.Core.Path.{◌≡◌, ap, ◌∙◌}
-use native.Mathlib.Omega.{arith}
+use Prim.Native.Nat.{◌-◌, ◌≤◌}
+use mathlib.Core.Path.{◌≡◌}
 use lib.ListN.{take}
 use Rattle.reader.specs.inner.Ending.{tail_of}
-use Rattle.reader.proofs.Bytes.{tail_none, tail_next}
 use Rattle.reader.proofs.lexing.short_tail.Given as goal
 
 abbrev pub invariant-loop-at : goal.invariant-loop-at

@@ -1,8 +1,7 @@
 -- `reader::lexing::skip` meets its contract: the loop passes blanks, and ends since the text does not begin with one.
 use mathlib.Core.Path.{sym, ◌∙◌}
 use native.Mathlib.Omega.{arith}
-use borrow.Author.Rules.{rules}
-use Rattle.reader.proofs.Blanks.{Passing, passing_none, not_first, passing_more, skipped_to, skipped_none}
+use Rattle.reader.proofs.Blanks.{passing_none, not_first, passing_more, skipped_to, skipped_none}
 use Rattle.reader.proofs.lexing.skip.Goals as goal
 
 pub returns-then-end-eq0 : goal.returns-then-end-eq0

@@ -1,7 +1,4 @@
-use mathlib.Core.Path.{sym, ◌∙◌}
-use native.Mathlib.Omega.{arith}
-use borrow.Author.Rules.{rules}
-use Rattle.reader.proofs.Blanks.{Passing, passing_none, not_first, passing_more, skipped_to, skipped_none}
+use Rattle.reader.proofs.Blanks.{Passing}
 use Rattle.reader.proofs.lexing.skip.Given as goal
 
 abbrev pub invariant-loop-at : goal.invariant-loop-at

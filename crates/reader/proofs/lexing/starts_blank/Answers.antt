@@ -1,6 +1,5 @@
 -- `reader::lexing::starts_blank` meets its contract.
 use native.Mathlib.Omega.{arith}
-use borrow.Author.Rules.{rules}
 use Rattle.reader.proofs.Bytes.{no_blank}
 use Rattle.reader.proofs.lexing.starts_blank.Goals as goal
 

@@ -1,6 +1,5 @@
 -- `reader::lexing::touches` meets its contract.
 use mathlib.Core.Path.{ap, ◌∙◌}
-use borrow.Author.Rules.{rules}
 use Rattle.text.specs.inner.Lexer.{is_letter}
 use Rattle.reader.proofs.lexing.touches.Goals as goal
 

@@ -1,7 +1,6 @@
 -- `reader::moves::bare` meets its contract: the machine fails where something stands behind it or something else is open; else the branches are nothing.
 use Rattle.reader.specs.inner.Nodes.{put_on}
 use Rattle.reader.proofs.Moving.{moved_broken, put_behind, closed, bare_behind, bare_bottom, bare_refused, bare_ending, bare_otherwise}
-use borrow.Author.Rules.{rules}
 use Rattle.reader.proofs.moves.bare.Goals as goal
 
 pub returns-then-reader : goal.returns-then-reader

@@ -1,6 +1,5 @@
 -- `reader::moves::bars` meets its contract: a statement is due, with a `||` behind it.
 use Rattle.reader.proofs.Moving.{moved_due}
-use borrow.Author.Rules.{rules}
 use Rattle.reader.proofs.moves.bars.Goals as goal
 
 pub returns : goal.returns

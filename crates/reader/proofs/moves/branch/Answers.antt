@@ -1,7 +1,6 @@
 -- `reader::moves::branch` meets its contract: what is open innermost is an `end`, with an else branch or without, or the machine fails too.
 use Rattle.reader.specs.inner.Nodes.{put_on}
 use Rattle.reader.proofs.Moving.{put_behind, closed, branch_bottom, branch_refused, branch_ending, branch_otherwise}
-use borrow.Author.Rules.{rules}
 use Rattle.reader.proofs.moves.branch.Goals as goal
 
 pub returns-then-reader-eq-DEEPEST : goal.returns-then-reader-eq-DEEPEST

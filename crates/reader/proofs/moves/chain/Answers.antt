@@ -1,7 +1,6 @@
 -- `reader::moves::chain` meets its contract: the node of the `||` is what the machine puts aside.
 use mathlib.Core.Path.{refl}
 use Rattle.reader.specs.inner.Nodes.{aside}
-use borrow.Author.Rules.{rules}
 use Rattle.reader.proofs.moves.chain.Goals as goal
 
 pub returns : goal.returns

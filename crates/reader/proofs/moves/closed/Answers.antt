@@ -1,6 +1,5 @@
 -- `reader::moves::closed` meets its contract: what was open is a single statement of the machine.
 use native.Mathlib.Numerals.{add-one}
-use borrow.Author.Rules.{rules}
 use Rattle.reader.proofs.moves.closed.Goals as goal
 
 pub returns : goal.returns

@@ -1,6 +1,5 @@
 -- `reader::moves::leaf` meets its contract: its node stands before what is behind it.
 use Rattle.reader.proofs.Moving.{closed}
-use borrow.Author.Rules.{rules}
 use Rattle.reader.proofs.moves.leaf.Goals as goal
 
 pub returns : goal.returns

@@ -1,7 +1,6 @@
 -- `reader::moves::met` meets its contract: a single statement that was met is what the machine meets.
 use Rattle.reader.specs.inner.Nodes.{chained}
 use Rattle.reader.proofs.Moving.{moved_met}
-use borrow.Author.Rules.{rules}
 use Rattle.reader.proofs.moves.met.Goals as goal
 
 pub returns : goal.returns

@@ -1,6 +1,5 @@
 -- `reader::moves::semicolon` meets its contract: a statement is due, with a `;` behind it.
 use Rattle.reader.proofs.Moving.{moved_due}
-use borrow.Author.Rules.{rules}
 use Rattle.reader.proofs.moves.semicolon.Goals as goal
 
 pub returns : goal.returns

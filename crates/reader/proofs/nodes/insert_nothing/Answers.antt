@@ -1,9 +1,6 @@
 -- `reader::nodes::insert_nothing` meets its contract. The loop's invariant: the nodes before `at` have moved one place forward.
-use mathlib.Core.Path.{◌≡◌}
-use Prim.Native.Nat.{◌-◌, ◌≤◌}
-use lib.ListN.{length}
 use borrow.Author.Rules.{rules}
-use Rattle.reader.proofs.Held.{Shifted, shifted_none, shifted_next, inserted, insert_none}
+use Rattle.reader.proofs.Held.{shifted_none, shifted_next, inserted, insert_none}
 use Rattle.reader.proofs.nodes.insert_nothing.Goals as goal
 
 pub returns-then-count-ge-MOST_NODES : goal.returns-then-count-ge-MOST_NODES

@@ -1,8 +1,7 @@
 use mathlib.Core.Path.{◌≡◌}
 use Prim.Native.Nat.{◌-◌, ◌≤◌}
 use lib.ListN.{length}
-use borrow.Author.Rules.{rules}
-use Rattle.reader.proofs.Held.{Shifted, shifted_none, shifted_next, inserted, insert_none}
+use Rattle.reader.proofs.Held.{Shifted}
 use Rattle.reader.proofs.nodes.insert_nothing.Given as goal
 
 abbrev pub invariant-loop-at : goal.invariant-loop-at

@@ -1,6 +1,5 @@
 -- `reader::nodes::put` meets its contract.
 use Rattle.reader.proofs.Held.{put_one, put_none}
-use borrow.Author.Rules.{rules}
 use Rattle.reader.proofs.nodes.put.Goals as goal
 
 pub returns-then-count-ge-MOST_NODES : goal.returns-then-count-ge-MOST_NODES

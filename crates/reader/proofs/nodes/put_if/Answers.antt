@@ -1,6 +1,5 @@
 -- `reader::nodes::put_if` meets its contract.
 use Rattle.reader.proofs.Held.{stored_asked, stored_unasked}
-use borrow.Author.Rules.{rules}
 use Rattle.reader.proofs.nodes.put_if.Goals as goal
 
 pub returns-then-asked : goal.returns-then-asked

@@ -1,8 +1,6 @@
 -- `reader::parsing::heading` meets its contract: a signal stands there and the word before it, or no parts that suit.
 use mathlib.Core.Path.{sym, ◌∙◌}
 use native.Mathlib.Omega.{arith}
-use borrow.Author.Rules.{rules}
-use borrow.Author.Tests.{not-true, not-false}
 use Rattle.reader.proofs.Places.{last_place}
 use Rattle.reader.proofs.Parting.{ends_room}
 use Rattle.reader.proofs.Heads.{signal_here, behind_within, no_heading, other_letter, other_word, heading_there}
@@ -30,14 +28,16 @@ overflow_sub-behind c =
 
 pub ends-requires : goal.ends-requires
 ends-requires c =
-    (omega (arith, before-requires b), c.requires.3, c.requires.4, c.requires.5)
+    let within = behind_within (signal_here _ _ c.in-From.is c.signal.ensures) c.skip-behind.ensures c.requires.0 in
+    (omega arith, c.requires.3, c.requires.4, c.requires.5)
 
 pub returns-then-not-ends : goal.returns-then-not-ends
 returns-then-not-ends c = λ w letter number count.
     other_word _ _ w (signal_here _ _ c.in-From.is c.signal.ensures) c.skip-behind.ensures c.requires.0 number count (sym c.ends.ensures ∙ c.if-not-ends.true)
 
 pub overflow_sub-result : goal.overflow_sub-result
-overflow_sub-result c = overflow_sub-behind c
+overflow_sub-result c =
+    last_place _ _ (sym c.before-2.ensures ∙ c.if-before-letter.false) c.requires.2
 
 pub overflow_sub-result-2 : goal.overflow_sub-result-2
 overflow_sub-result-2 c =
@@ -46,5 +46,5 @@ overflow_sub-result-2 c =
 
 pub returns : goal.returns
 returns c = λ w letter number count.
-    heading_there _ _ w (signal_here _ _ c.in-From.is c.signal.ensures) c.skip-behind.ensures c.requires.0 number count (λ i. omega (arith, c.shared_slice_known-1.given i))
+    heading_there _ _ w (signal_here _ _ c.in-From.is c.signal.ensures) c.skip-behind.ensures c.requires.0 number count (λ i. omega (arith, c.type_inv.text i))
     (sym c.before-2.ensures ∙ c.if-before-letter.false ∙ letter) (sym c.ends.ensures ∙ c.if-not-ends.false)

@@ -1,11 +1,10 @@
 -- `reader::parsing::parse` meets its contract: the loop takes parts from the end, and what is left before them is still the text; where all was read the verdict is that of the machine.
 use mathlib.Core.Path.{sym, ◌∙◌}
-use mathlib.Core.Logic.{⊎_elim}
 use native.Mathlib.Omega.{arith}
-use borrow.Author.Rules.{rules}
 use Rattle.reader.specs.inner.Held.{work_at, verdict_is}
-use Rattle.reader.proofs.Loops.{blank_first, Parsing, parsing_none, Turned, turned_due, turned_met, begins, parsing_broken, parsing_more, turned_within, turned_shorter, parsing_done}
+use Rattle.reader.proofs.Loops.{blank_first, parsing_none, Turned, turned_due, turned_met, begins, parsing_broken, parsing_more, turned_within, turned_shorter, parsing_done}
 use Rattle.reader.proofs.parsing.parse.Goals as goal
+use Rattle.reader.proofs.parsing.parse.Goals.{in-Due, in-Met}
 
 pub starts_blank-requires : goal.starts_blank-requires
 starts_blank-requires c = tt
@@ -29,26 +28,20 @@ returns-in-Broken c =
 -- where parts were taken
 pub skip-end-requires : goal.skip-end-requires
 skip-end-requires c =
-    let turned : Turned c.args.text.now c.loop-end.end m.match.start (work_at c.loop-end.is-due c.loop-end.reader c.loop-end.frames c.loop-end.nodes) m.match.is-due c.loop-end.ranged c.take.last.1.1.1.0 m.match.reader c.take.last.1.1.1.1.1.0 c.take.last.1.1.1.1.1.1.0 = ⊎_elim
-      (λ w. turned_due c.take.ensures w.1.given.1 w.3 w.4 w.5)
-      (λ w. turned_met c.take.ensures w.1.given.1 w.3 w.4 w.5)
-      m.match.came in
+    let turned : Turned c.args.text.now c.loop-end.end c.match-take.start (work_at c.loop-end.is_due c.loop-end.reader c.loop-end.frames c.loop-end.nodes) c.match-take.is_due c.loop-end.ranged c.take.new.ranged c.match-take.reader c.take.new.frames c.take.new.nodes =
+    elim c.match-take.branch [ in-Due w ↦ turned_due c.take.ensures w.in-Due.is w.reader-is w.is_due-is w.start-is | in-Met w ↦ turned_met c.take.ensures w.in-Met.is w.reader-is w.is_due-is w.start-is ] in
     turned_within c.loop-end.invariant turned
 
 pub loop-end-smaller : goal.loop-end-smaller
 loop-end-smaller c =
-    let turned : Turned c.args.text.now c.loop-end.end c.match-take.start (work_at c.loop-end.is-due c.loop-end.reader c.loop-end.frames c.loop-end.nodes) c.match-take.is-due c.loop-end.ranged c.take.last.1.1.1.0 c.match-take.reader c.take.last.1.1.1.1.1.0 c.take.last.1.1.1.1.1.1.0 = ⊎_elim
-      (λ w. turned_due c.take.ensures w.1.given.1 w.3 w.4 w.5)
-      (λ w. turned_met c.take.ensures w.1.given.1 w.3 w.4 w.5)
-      c.match-take.came in
+    let turned : Turned c.args.text.now c.loop-end.end c.match-take.start (work_at c.loop-end.is_due c.loop-end.reader c.loop-end.frames c.loop-end.nodes) c.match-take.is_due c.loop-end.ranged c.take.new.ranged c.match-take.reader c.take.new.frames c.take.new.nodes =
+    elim c.match-take.branch [ in-Due w ↦ turned_due c.take.ensures w.in-Due.is w.reader-is w.is_due-is w.start-is | in-Met w ↦ turned_met c.take.ensures w.in-Met.is w.reader-is w.is_due-is w.start-is ] in
     turned_shorter c.loop-end.invariant turned c.skip-end.ensures
 
 pub loop-end-preserved : goal.loop-end-preserved
 loop-end-preserved c =
-    let turned : Turned c.args.text.now c.loop-end.end c.match-take.start (work_at c.loop-end.is-due c.loop-end.reader c.loop-end.frames c.loop-end.nodes) c.match-take.is-due c.loop-end.ranged c.take.last.1.1.1.0 c.match-take.reader c.take.last.1.1.1.1.1.0 c.take.last.1.1.1.1.1.1.0 = ⊎_elim
-      (λ w. turned_due c.take.ensures w.1.given.1 w.3 w.4 w.5)
-      (λ w. turned_met c.take.ensures w.1.given.1 w.3 w.4 w.5)
-      c.match-take.came in
+    let turned : Turned c.args.text.now c.loop-end.end c.match-take.start (work_at c.loop-end.is_due c.loop-end.reader c.loop-end.frames c.loop-end.nodes) c.match-take.is_due c.loop-end.ranged c.take.new.ranged c.match-take.reader c.take.new.frames c.take.new.nodes =
+    elim c.match-take.branch [ in-Due w ↦ turned_due c.take.ensures w.in-Due.is w.reader-is w.is_due-is w.start-is | in-Met w ↦ turned_met c.take.ensures w.in-Met.is w.reader-is w.is_due-is w.start-is ] in
     parsing_more c.loop-end.invariant turned c.skip-end.ensures
 
 pub finish-requires : goal.finish-requires

@@ -1,7 +1,6 @@
 -- `reader::parsing::signal` meets its contract: a number stands there, S before it and no letter before that.
 use mathlib.Core.Path.{sym, ◌∙◌}
 use native.Mathlib.Omega.{arith}
-use borrow.Author.Rules.{rules}
 use Rattle.reader.proofs.Places.{last_place}
 use Rattle.reader.proofs.Numerals.{number_here}
 use Rattle.reader.proofs.Heads.{no_signal, no_mark, mark_touched, signal_there}
@@ -23,14 +22,16 @@ pub overflow_sub-start : goal.overflow_sub-start
 overflow_sub-start c = last_place _ _ (sym c.before-2.ensures ∙ c.if-before-ne83.false) (omega arith)
 
 pub touches-requires : goal.touches-requires
-touches-requires c = omega (arith, before-requires c)
+touches-requires c =
+    let below = (number_here _ _ c.in-From.is c.number.ensures).shorter in
+    omega (arith, c.requires)
 
 pub returns-then-touches : goal.returns-then-touches
 returns-then-touches c =
     mark_touched _ _ c.requires (number_here _ _ c.in-From.is c.number.ensures) (sym c.touches.ensures ∙ c.if-touches.true)
 
 pub overflow_sub-result : goal.overflow_sub-result
-overflow_sub-result c = overflow_sub-start c
+overflow_sub-result c = last_place _ _ (sym c.before-2.ensures ∙ c.if-before-ne83.false) (omega arith)
 
 pub returns : goal.returns
 returns c =

@@ -1,5 +1,4 @@
 -- `reader::parsing::take` meets its contract: the state that it is given for is that of the function which it calls.
-use borrow.Author.Rules.{rules}
 use Rattle.reader.specs.inner.Held.{work_at}
 use Rattle.reader.proofs.parsing.take.Goals as goal
 

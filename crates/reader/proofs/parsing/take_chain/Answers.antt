@@ -1,8 +1,6 @@
 -- `reader::parsing::take_chain` meets its contract: by the last byte a part stands there that suits, or none does.
 use mathlib.Core.Path.{sym, ◌∙◌}
 use native.Mathlib.Omega.{arith}
-use borrow.Author.Rules.{rules}
-use borrow.Author.Tests.{not-true, not-false}
 use Rattle.reader.proofs.Parting.{word_room}
 use Rattle.reader.proofs.Chains.{no_loop, no_try, no_else, no_chain, took_opening, took_loop, took_try, took_else}
 use Rattle.reader.proofs.parsing.take_chain.Goals as goal
@@ -37,17 +35,17 @@ returns-in-91 c = λ b B e.
 
 pub returns-else-not-ends : goal.returns-else-not-ends
 returns-else-not-ends c = λ b B e.
-    took_loop _ _ c.requires.0.some c.requires.0.within _ b _ B _ _ _ _ e (λ i. omega (arith, c.shared_slice_known-1.given i)) (sym c.before-2.ensures ∙ c.in-112.is)
+    took_loop _ _ c.requires.0.some c.requires.0.within _ b _ B _ _ _ _ e (λ i. omega (arith, c.type_inv.text i)) (sym c.before-2.ensures ∙ c.in-112.is)
     (sym c.ends.ensures ∙ c.if-not-ends.false) c.body.ensures
 
 pub returns-else-not-ends-2 : goal.returns-else-not-ends-2
 returns-else-not-ends-2 c = λ b B e.
-    took_try _ _ c.requires.0.some c.requires.0.within _ b _ B _ _ _ _ e (λ i. omega (arith, c.shared_slice_known-1.given i)) (sym c.before-2.ensures ∙ c.in-121.is)
+    took_try _ _ c.requires.0.some c.requires.0.within _ b _ B _ _ _ _ e (λ i. omega (arith, c.type_inv.text i)) (sym c.before-2.ensures ∙ c.in-121.is)
     (sym c.ends-in-121.ensures ∙ c.if-not-ends-2.false) c.body-in-121.ensures
 
 pub returns-else-not-ends-3 : goal.returns-else-not-ends-3
 returns-else-not-ends-3 c = λ b B e.
-    took_else _ _ c.requires.0.some c.requires.0.within _ b _ B _ _ _ _ e (λ i. omega (arith, c.shared_slice_known-1.given i)) (sym c.before-2.ensures ∙ c.in-101.is)
+    took_else _ _ c.requires.0.some c.requires.0.within _ b _ B _ _ _ _ e (λ i. omega (arith, c.type_inv.text i)) (sym c.before-2.ensures ∙ c.in-101.is)
     (sym c.ends-in-101.ensures ∙ c.if-not-ends-3.false) (c.otherwise.ensures _ c.requires.2.nodes)
 
 pub returns-in_default : goal.returns-in_default

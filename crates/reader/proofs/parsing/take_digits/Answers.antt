@@ -1,7 +1,6 @@
 -- `reader::parsing::take_digits` meets its contract: a number or a signal is taken, with what stands before it; or no part that suits ends there.
 use mathlib.Core.Path.{refl, sym, ◌∙◌}
 use native.Mathlib.Omega.{arith}
-use borrow.Author.Rules.{rules}
 use Rattle.reader.specs.inner.Held.{stack_of, nodes_held, numbered_state, named_state, due_state}
 use Rattle.reader.proofs.Places.{last_place}
 use Rattle.reader.proofs.Numerals.{number_here}
@@ -18,7 +17,8 @@ before-requires c =
     omega (arith, (number_here _ _ c.in-From.is c.number.ensures).shorter, c.requires.0.within)
 
 pub touches-requires : goal.touches-requires
-touches-requires c = before-requires c
+touches-requires c =
+    omega (arith, (number_here _ _ c.in-From.is c.number.ensures).shorter, c.requires.0.within)
 
 pub returns-then-touches : goal.returns-then-touches
 unfolding due_state
@@ -27,7 +27,8 @@ returns-then-touches c =
 
 pub skip-requires : goal.skip-requires
 skip-requires c =
-    (before-requires v, c.requires.0.solid)
+    let below = (number_here _ _ c.in-From.is c.number.ensures).shorter in
+    (omega (arith, c.requires.0.within), c.requires.0.solid)
 
 pub take_number-requires : goal.take_number-requires
 take_number-requires c =
@@ -47,7 +48,8 @@ overflow_sub-start c =
 
 pub touches-requires-2 : goal.touches-requires-2
 touches-requires-2 c =
-    let h = before-requires c in omega arith
+    let below = (number_here _ _ c.in-From.is c.number.ensures).shorter in
+    omega (arith, c.requires.0.within)
 
 pub returns-then-touches-2 : goal.returns-then-touches-2
 unfolding due_state
@@ -56,12 +58,12 @@ returns-then-touches-2 c =
 
 pub overflow_sub-start-2 : goal.overflow_sub-start-2
 overflow_sub-start-2 c =
-    overflow_sub-start c
+    last_place _ _ (sym c.before-2.ensures ∙ c.if-before-ne83.false) (omega arith)
 
 pub skip-requires-2 : goal.skip-requires-2
 skip-requires-2 c =
-    let h = before-requires v in
-    (omega arith, c.requires.0.solid)
+    let below = (number_here _ _ c.in-From.is c.number.ensures).shorter in
+    (omega (arith, c.requires.0.within), c.requires.0.solid)
 
 pub take_signal-requires : goal.take_signal-requires
 take_signal-requires c =

@@ -1,8 +1,6 @@
 -- `reader::parsing::take_due` meets its contract: by the last byte, the one part of those that suit which it can end.
 use mathlib.Core.Path.{refl, sym, ◌∙◌}
 use native.Mathlib.Omega.{arith}
-use borrow.Author.Rules.{rules}
-use borrow.Author.Tests.{not-true, not-false}
 use Rattle.text.specs.Parts.{Nothing, End, closing}
 use Rattle.text.specs.Spelling.{letters_of, spelling, last_of}
 use Rattle.text.specs.inner.Lexer.{is_letter}
@@ -36,7 +34,7 @@ take_digits-requires c =
 pub returns-else-not-ends : goal.returns-else-not-ends
 unfolding due_state work work_due letters_of last_of
 returns-else-not-ends c =
-    took_word _ _ c.requires.0.within (λ i. omega (arith, c.shared_slice_known-1.given i)) Nothing (sym c.before-2.ensures ∙ c.in-103.is)
+    took_word _ _ c.requires.0.within (λ i. omega (arith, c.type_inv.text i)) Nothing (sym c.before-2.ensures ∙ c.in-103.is)
     (sym c.ends.ensures ∙ c.if-not-ends.false) _ _ c.leaf.result c.args.frames.now _ (c.leaf.ensures c.args.frames.now c.requires.1.frames)
 
 pub returns-in-101 : goal.returns-in-101
@@ -46,7 +44,7 @@ returns-in-101 c =
 pub returns-else-not-ends-2 : goal.returns-else-not-ends-2
 unfolding due_state work work_due framed_as letters_of last_of
 returns-else-not-ends-2 c =
-    took_word _ _ c.requires.0.within (λ i. omega (arith, c.shared_slice_known-1.given i)) End (sym c.before-2.ensures ∙ c.in-100.is)
+    took_word _ _ c.requires.0.within (λ i. omega (arith, c.type_inv.text i)) End (sym c.before-2.ensures ∙ c.in-100.is)
     (sym c.ends-in-100.ensures ∙ c.if-not-ends-2.false) _ _ c.open.result _ c.args.nodes.now (c.open.ensures c.args.nodes.now c.requires.1.nodes)
 
 pub returns-in-93 : goal.returns-in-93
@@ -63,4 +61,4 @@ returns-in_default c =
 pub returns-in_default-2 : goal.returns-in_default-2
 unfolding due_state
 returns-in_default-2 c =
-    no_part _ _ c.requires.0.within _ _ _ _ _ (above_digits _ (omega arith)) (λ e. (omega arith) (c.before-2.ensures ∙ e)) (λ e. (omega arith) (c.before-2.ensures ∙ e)) (λ e. (omega arith) (c.before-2.ensures ∙ e)) (λ e. (omega arith) (c.before-2.ensures ∙ e))
+    no_part _ _ c.requires.0.within _ _ _ _ _ (above_digits _ (omega arith)) (λ e. omega arith) (λ e. omega arith) (λ e. omega arith) (λ e. omega arith)

@@ -1,8 +1,6 @@
 -- `reader::parsing::take_heading` meets its contract: `then` or `in` stands there with its signal and word, or no parts that suit.
 use mathlib.Core.Path.{refl, sym, ◌∙◌}
 use native.Mathlib.Omega.{arith}
-use borrow.Author.Rules.{rules}
-use borrow.Author.Tests.{not-true, not-false}
 use Rattle.text.specs.Parts.{Signal, Present}
 use Rattle.text.specs.Spelling.{letters_of, last_of}
 use Rattle.reader.proofs.Words.{word_number_lem, word_count_lem}
@@ -17,7 +15,7 @@ overflow_sub-end-then-ends c = word_room _ _ _ _ c.requires.0.within (omega arit
 pub returns-in_default : goal.returns-in_default
 unfolding letters_of last_of
 returns-in_default c = λ b B e.
-    then_doomed _ _ c.requires.0.within (λ i. omega (arith, c.shared_slice_known-1.given i)) c.requires.1 _ b _ B (sym c.ends.ensures ∙ c.if-ends.true) c.skip.ensures c.in_default.is
+    then_doomed _ _ c.requires.0.within (λ i. omega (arith, c.type_inv.text i)) c.requires.1 _ b _ B (sym c.ends.ensures ∙ c.if-ends.true) c.skip.ensures c.in_default.is
     (c.heading.ensures Present refl (sym (word_number_lem Present)) (sym (word_count_lem Present)))
 
 pub branch-reader-requires : goal.branch-reader-requires
@@ -28,7 +26,7 @@ branch-reader-requires c =
 pub returns-then-ends : goal.returns-then-ends
 unfolding letters_of last_of
 returns-then-ends c = λ b B e.
-    took_then _ _ c.requires.0.within (λ i. omega (arith, c.shared_slice_known-1.given i)) c.requires.1 _ b _ B (sym c.ends.ensures ∙ c.if-ends.true) c.skip.ensures c.in-From.is
+    took_then _ _ c.requires.0.within (λ i. omega (arith, c.type_inv.text i)) c.requires.1 _ b _ B (sym c.ends.ensures ∙ c.if-ends.true) c.skip.ensures c.in-From.is
     (c.heading.ensures Present refl (sym (word_number_lem Present)) (sym (word_count_lem Present))) e _ c.signal_ranged.ensures _ _ _ c.branch-reader.ensures
 
 pub returns-then-not-ends : goal.returns-then-not-ends
@@ -41,11 +39,11 @@ overflow_sub-end-3 c = word_room _ _ _ _ c.requires.0.within (omega arith) (sym 
 pub returns-in_default-heading : goal.returns-in_default-heading
 unfolding letters_of last_of
 returns-in_default-heading c = λ b B e.
-    in_doomed _ _ c.requires.0.within (λ i. omega (arith, c.shared_slice_known-1.given i)) c.requires.1 _ b _ B (sym c.ends-2.ensures ∙ c.if-not-ends.false) c.skip-2.ensures c.in_default-heading.is
+    in_doomed _ _ c.requires.0.within (λ i. omega (arith, c.type_inv.text i)) c.requires.1 _ b _ B (sym c.ends-2.ensures ∙ c.if-not-ends.false) c.skip-2.ensures c.in_default-heading.is
     (c.heading-2.ensures Signal refl (sym (word_number_lem Signal)) (sym (word_count_lem Signal)))
 
 pub returns : goal.returns
 unfolding letters_of last_of
 returns c = λ b B e.
-    took_in _ _ c.requires.0.within (λ i. omega (arith, c.shared_slice_known-1.given i)) c.requires.1 _ b _ B (sym c.ends-2.ensures ∙ c.if-not-ends.false) c.skip-2.ensures c.in-From-heading.is
+    took_in _ _ c.requires.0.within (λ i. omega (arith, c.type_inv.text i)) c.requires.1 _ b _ B (sym c.ends-2.ensures ∙ c.if-not-ends.false) c.skip-2.ensures c.in-From-heading.is
     (c.heading-2.ensures Signal refl (sym (word_number_lem Signal)) (sym (word_count_lem Signal))) e _ c.signal_ranged-2.ensures _ _ _ c.body.ensures

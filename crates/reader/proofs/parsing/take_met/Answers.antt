@@ -1,6 +1,5 @@
 -- `reader::parsing::take_met` meets its contract: a `;` stands there, or the chain is whole and what stands before it is taken.
 use mathlib.Core.Path.{sym, ◌∙◌}
-use borrow.Author.Rules.{rules}
 use Rattle.reader.specs.inner.Held.{met_state}
 use Rattle.reader.proofs.Chains.{took_semicolon, whole_ready, took_whole}
 use Rattle.reader.proofs.parsing.take_met.Goals as goal

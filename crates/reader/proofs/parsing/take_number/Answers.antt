@@ -1,8 +1,6 @@
 -- `reader::parsing::take_number` meets its contract: `exit` or `gotopause` stands there, or no part that suits.
 use mathlib.Core.Path.{sym, ◌∙◌}
 use native.Mathlib.Omega.{arith}
-use borrow.Author.Rules.{rules}
-use borrow.Author.Tests.{not-true, not-false}
 use Rattle.text.specs.Parts.{Gotopause, Exit}
 use Rattle.text.specs.Spelling.{letters_of, last_of}
 use Rattle.reader.specs.inner.Nodes.{work, work_numbered}
@@ -26,7 +24,7 @@ overflow_sub-end-then-before-eq116 c = word_room _ _ _ _ c.requires.0 (omega ari
 pub returns-then-before-eq116 : goal.returns-then-before-eq116
 unfolding numbered_state work work_numbered letters_of last_of
 returns-then-before-eq116 c = λ fs l.
-    took_word _ _ c.requires.0 (λ i. omega (arith, c.shared_slice_known-1.given i)) Exit (sym c.before-2.ensures ∙ c.if-before-eq116.true)
+    took_word _ _ c.requires.0 (λ i. omega (arith, c.type_inv.text i)) Exit (sym c.before-2.ensures ∙ c.if-before-eq116.true)
     (sym c.ends.ensures ∙ c.if-not-ends.false) _ _ _ fs _ (c.leaf.ensures fs l)
 
 pub returns-then-not-is_gotopause : goal.returns-then-not-is_gotopause
@@ -42,4 +40,4 @@ pub returns : goal.returns
 unfolding numbered_state work work_numbered letters_of last_of
 returns c = λ fs l.
     let there = jump_there c.args.text.now c.args.end (sym c.is_gotopause.ensures ∙ c.if-not-is_gotopause.false) in
-    took_word _ _ c.requires.0 (λ i. omega (arith, c.shared_slice_known-1.given i)) Gotopause there.0 there.1 _ _ _ fs _ (c.leaf-2.ensures fs l)
+    took_word _ _ c.requires.0 (λ i. omega (arith, c.type_inv.text i)) Gotopause there.0 there.1 _ _ _ fs _ (c.leaf-2.ensures fs l)

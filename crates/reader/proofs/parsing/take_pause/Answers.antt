@@ -2,8 +2,6 @@
 use Prim.Native.Nat.{◌-◌, ◌≤◌}
 use mathlib.Core.Path.{refl, sym, ◌∙◌}
 use native.Mathlib.Omega.{arith}
-use borrow.Author.Rules.{rules}
-use borrow.Author.Tests.{not-true, not-false}
 use Rattle.reader.specs.inner.Held.{stack_of, nodes_held, due_state}
 use Rattle.reader.proofs.Parting.{closes_room}
 use Rattle.reader.proofs.Numerals.{number_here}
@@ -39,5 +37,5 @@ pub returns : goal.returns
 unfolding due_state
 returns c = λ fs l.
     pause_taken _ _ c.requires.0.within c.args.reader.left c.args.reader.after c.args.reader.beside (stack_of c.args.reader fs) (nodes_held c.args.reader c.args.nodes.now) c.requires.1 c.number.ensures c.in-From.is
-    (λ i. omega (arith, c.shared_slice_known-1.given i)) (sym c.closes.ensures ∙ c.if-not-closes.false) (sym c.touches.ensures ∙ c.if-touches.false)
+    (λ i. omega (arith, c.type_inv.text i)) (sym c.closes.ensures ∙ c.if-not-closes.false) (sym c.touches.ensures ∙ c.if-touches.false)
     c.args.ranged.now _ c.leaf.result fs _ c.label_ranged.ensures refl (c.leaf.ensures fs l)

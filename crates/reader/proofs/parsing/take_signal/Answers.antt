@@ -1,8 +1,6 @@
 -- `reader::parsing::take_signal` meets its contract: `emit` or `present` stands there, or no part that suits.
 use mathlib.Core.Path.{sym, ◌∙◌}
 use native.Mathlib.Omega.{arith}
-use borrow.Author.Rules.{rules}
-use borrow.Author.Tests.{not-true, not-false}
 use Rattle.text.specs.Parts.{Emit, Present}
 use Rattle.text.specs.Spelling.{letters_of, last_of}
 use Rattle.reader.specs.inner.Nodes.{work, work_named}
@@ -25,11 +23,11 @@ overflow_sub-end-then-ends c = word_room _ _ _ _ c.requires.0 (omega arith) (sym
 pub returns-then-ends : goal.returns-then-ends
 unfolding named_state work work_named letters_of last_of
 returns-then-ends c =
-    took_word _ _ c.requires.0 (λ i. omega (arith, c.shared_slice_known-1.given i)) Emit (sym c.before-2.ensures ∙ c.if-before-ne116.false)
+    took_word _ _ c.requires.0 (λ i. omega (arith, c.type_inv.text i)) Emit (sym c.before-2.ensures ∙ c.if-before-ne116.false)
     (sym c.ends.ensures ∙ c.if-ends.true) _ _ _ _ _ (c.leaf.ensures _ c.requires.1.frames)
 
 pub overflow_sub-end-2 : goal.overflow_sub-end-2
-overflow_sub-end-2 c = overflow_sub-end c
+overflow_sub-end-2 c = last_place _ _ (sym c.before-2.ensures ∙ c.if-before-ne116.false) (omega arith)
 
 pub returns-then-not-ends : goal.returns-then-not-ends
 unfolding named_state
@@ -43,5 +41,5 @@ overflow_sub-end-3 c =
 pub returns : goal.returns
 unfolding named_state work work_named letters_of last_of
 returns c =
-    took_word _ _ c.requires.0 (λ i. omega (arith, c.shared_slice_known-1.given i)) Present (sym c.before-2.ensures ∙ c.if-before-ne116.false)
+    took_word _ _ c.requires.0 (λ i. omega (arith, c.type_inv.text i)) Present (sym c.before-2.ensures ∙ c.if-before-ne116.false)
     (sym c.ends-2.ensures ∙ c.if-not-ends.false) _ _ _ _ _ c.bare.ensures
