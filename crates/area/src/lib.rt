@@ -1,6 +1,7 @@
 // Lists of rows in order, one above the other in a lent area of words. A row is two words, one of O, k and its condition, and L.
 // Whoever makes a list returns how many rows it has, or one of the numbers above MOST below.
 #![tactic(auto)]
+
 ghost use Rattle.std.specs.Prelude.{◌≡◌, true, false, not, [], ◌∷◌, ◌++◌, ℕ, ◌+◌, ◌*◌, ◌/◌, ◌%◌, ◌^◌, ◌≤◌, ◌<◌, max, length};
 ghost use Rattle.std.proofs.Math.Option.{some};
 ghost use Rattle.sets.specs.Set.{only};

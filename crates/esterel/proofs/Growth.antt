@@ -3,12 +3,12 @@
 -- one pause and, here, a gotopause, which are leaves, so that 4 k is at most the size plus 1; and labels are 1 to 63.
 use mathlib.Core.Path.{◌≡◌, refl, ap, ◌∙◌, subst}
 use mathlib.Core.Logic.{◌⊎◌, inl, inr, ⊎_elim}
-use mathlib.Core.Bool.{Bool, true, false, not, ◌||◌}
+use mathlib.Core.Bool.{Bool, true, false, ◌||◌}
 use Prim.Native.Nat.{ℕ, suc, pred, ◌+◌, ◌*◌, ◌≤◌, ◌<◌, max}
 use native.Mathlib.Decide.{dec_le}
 use native.Mathlib.Nat.{div-lt_iff_lt-mul, le_of_suc-le-suc}
 use native.Mathlib.Omega.{arith}
-use Rattle.sets.specs.Set.{has, only, ◌union◌, ◌intersect◌, count}
+use Rattle.sets.specs.Set.{has, ◌union◌, ◌intersect◌, count}
 use Rattle.sets.proofs.Booleans.{and_both, clash, not_true}
 use Rattle.sets.proofs.Members.{has_empty, either, has_intersect, in_both, has_only_equal, meet}
 use Rattle.sets.proofs.Counts.{count_within, count_empty, count_only, count_union, count_apart, count_some, count_labels}

@@ -1,6 +1,7 @@
 // The three counters of Esterel*: labels, exit levels and completion codes. No number is taken from one to another but here.
 // And the share of a program that was kept.
 #![tactic(auto)]
+
 ghost use Rattle.std.specs.Prelude.{◌≡◌, ◌≤◌, max};
 ghost use Rattle.esterel.specs.Codes.{code_of, through};
 ghost use Rattle.esterel.specs.Shares.{thousandths, remainder};

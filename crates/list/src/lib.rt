@@ -5,6 +5,7 @@
 // statement is usually listed once, with the signal unknown, and again with it present and with it absent only where that gives
 // up; a part that cannot react in the state is not visited.
 #![tactic(auto)]
+
 mod finding;
 mod noting;
 mod preparing;

@@ -1,5 +1,6 @@
 // The two recursions that list the rows of a statement, started and resumed, in a lent area, and the notes on statements.
 #![tactic(auto)]
+
 mod noted;
 mod reacting;
 

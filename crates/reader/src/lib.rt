@@ -1,5 +1,6 @@
 // Reading a statement text into a table.
 #![tactic(auto)]
+
 mod frames;
 mod lexing;
 mod moves;

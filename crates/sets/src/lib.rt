@@ -1,5 +1,6 @@
 // Sets of the numbers 0 to 63, a bit each.
 #![tactic(auto)]
+
 ghost use Rattle.std.specs.Prelude.{◌≡◌, ◌≢◌, true, false, ℕ, ◌%◌, ◌^◌, ◌<◌};
 ghost use Rattle.sets.specs.Set.{has, only, ◌union◌, ◌without◌, ◌minus◌, count as count_below};
 

@@ -5,6 +5,7 @@
 // unknown, so that all sets are usually looked at in one list of rows. Where that gives up, one of them is made present and then
 // absent: at most twice as many lists as there are sets, each made again in a larger area where the small one is too small.
 #![tactic(auto)]
+
 mod free;
 mod looking;
 

@@ -1,5 +1,6 @@
 // The node table: its kinds, reading and writing it, and check.
 #![tactic(auto)]
+
 mod kinds;
 mod reading;
 mod writing;

@@ -2,7 +2,6 @@
 use mathlib.Core.Path.{◌≡◌, refl, sym, ap, ◌∙◌}
 use Prim.Native.Nat.{ℕ, ◌≤◌}
 use mathlib.Core.Option.{Option, none, some, some-injective}
-use mathlib.Core.List.{List}
 use native.Mathlib.Omega.{arith}
 use Rattle.esterel.specs.Statement.{Statement}
 use Rattle.table.specs.Reading.{Table, holds}

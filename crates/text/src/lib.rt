@@ -1,5 +1,6 @@
 // The statement text: what reading and writing answer. The definitions and the theorems on them are in specs/ and proofs/.
 #![tactic(auto)]
+
 ghost use Rattle.std.specs.Prelude.{◌≡◌};
 ghost use Rattle.table.specs.Outcomes.{number_of};
 ghost use Rattle.text.specs.Answers.{answer_outcome};

@@ -1,7 +1,5 @@
 -- The invariant: what the rows from the j-th on give is still to be put in.
-use Prim.Native.Nat.{◌-◌, ◌≤◌}
-use Rattle.area.proofs.Made.{Filling}
-use Rattle.area.proofs.Products.{joins, joins_goal, joins_start, joins_over, joins_step, joins_end}
+use Rattle.area.proofs.Products.{joins_start, joins_over, joins_step, joins_end}
 use native.Mathlib.Omega.{arith}
 use Rattle.area.proofs.add_joined.Goals as goal
 
@@ -21,13 +19,12 @@ returns-then-count-gt-MOST c =
     c.join-x.ensures _ _ c.put_unless_clash-count.ensures.made c.if-count-gt-MOST.true
 
 pub loop-j-preserved : goal.loop-j-preserved
-loop-j-preserved c =
-    (
-      omega arith,
-      joins_step c.args.how c.args.w c.args.l c.args.area.now c.args.mid c.args.n2 c.args.top c.args.n c.loop-j.area _
-          c.loop-j.j c.loop-j.invariant.1 c.requires.1 c.loop-j-test.true _
-          c.join-x.ensures _ _ c.put_unless_clash-count.ensures.made c.if-count-gt-MOST.false,
-    )
+loop-j-preserved c = (
+  omega arith,
+  joins_step c.args.how c.args.w c.args.l c.args.area.now c.args.mid c.args.n2 c.args.top c.args.n c.loop-j.area _
+      c.loop-j.j c.loop-j.invariant.1 c.requires.1 c.loop-j-test.true _
+      c.join-x.ensures _ _ c.put_unless_clash-count.ensures.made c.if-count-gt-MOST.false,
+)
 
 pub returns : goal.returns
 returns c =

@@ -1,7 +1,6 @@
 use Prim.Native.Nat.{◌-◌, ◌≤◌}
 use Rattle.area.proofs.Made.{Filling}
-use Rattle.area.proofs.Products.{joins, joins_goal, joins_start, joins_over, joins_step, joins_end}
-use native.Mathlib.Omega.{arith}
+use Rattle.area.proofs.Products.{joins, joins_goal}
 use Rattle.area.proofs.add_joined.Given as goal
 
 abbrev pub invariant-loop-j : goal.invariant-loop-j

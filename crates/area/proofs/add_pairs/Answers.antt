@@ -4,7 +4,6 @@ use Rattle.area.specs.inner.Layout.{packed}
 use Rattle.area.specs.inner.Rules.{joined_all}
 use Rattle.area.specs.inner.Area.{rows}
 use Rattle.area.proofs.Products.{pairs_made}
-use borrow.Author.Rules.{rules}
 use Rattle.area.proofs.add_pairs.Goals as goal
 
 pub returns-then-alone : goal.returns-then-alone

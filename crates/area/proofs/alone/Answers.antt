@@ -1,6 +1,5 @@
 -- By the kind of pairing, and by the code in a sequence.
 use Rattle.area.proofs.Products.{alone_sequence, alone_parallel}
-use borrow.Author.Rules.{rules}
 use Rattle.area.proofs.alone.Goals as goal
 
 pub returns-in-Sequence : goal.returns-in-Sequence

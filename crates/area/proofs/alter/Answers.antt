@@ -1,8 +1,6 @@
 -- The invariant: i rows are read, and what became of them stands at base.
-use Prim.Native.Nat.{◌+◌, ◌*◌, ◌-◌, ◌≤◌}
 use mathlib.Core.Path.{refl}
-use Rattle.area.proofs.Made.{Passing}
-use Rattle.area.proofs.Changes.{changes, changes_goal, altering_start, altering_step, altering_end}
+use Rattle.area.proofs.Changes.{altering_start, altering_step, altering_end}
 use native.Mathlib.Omega.{arith}
 use Rattle.area.proofs.alter.Goals as goal
 
@@ -26,12 +24,11 @@ alter_one-m-requires c =
     (omega (arith, c.loop-i.invariant.1.behind, c.if-n-gt-MOST.false), omega (arith, c.loop-i.invariant.1.behind, c.loop-i.invariant.1.filling.same), c.loop-i.invariant.1.filling.rising)
 
 pub loop-i-preserved : goal.loop-i-preserved
-loop-i-preserved c =
-    (
-      omega arith,
-      altering_step c.args.change c.args.area.now c.args.base c.args.n c.loop-i.area c.loop-i.m c.loop-i.i c.loop-i.invariant.1 _ _
-          c.loop-i-test.true c.if-n-gt-MOST.false c.alter_one-m.ensures,
-    )
+loop-i-preserved c = (
+  omega arith,
+  altering_step c.args.change c.args.area.now c.args.base c.args.n c.loop-i.area c.loop-i.m c.loop-i.i c.loop-i.invariant.1 _ _
+      c.loop-i-test.true c.if-n-gt-MOST.false c.alter_one-m.ensures,
+)
 
 pub returns : goal.returns
 returns c =

@@ -1,8 +1,6 @@
 use Prim.Native.Nat.{◌+◌, ◌*◌, ◌-◌, ◌≤◌}
-use mathlib.Core.Path.{refl}
 use Rattle.area.proofs.Made.{Passing}
-use Rattle.area.proofs.Changes.{changes, changes_goal, altering_start, altering_step, altering_end}
-use native.Mathlib.Omega.{arith}
+use Rattle.area.proofs.Changes.{changes, changes_goal}
 use Rattle.area.proofs.alter.Given as goal
 
 abbrev pub invariant-loop-i : goal.invariant-loop-i

@@ -4,16 +4,14 @@ use Rattle.sets.specs.Set.{only}
 use Rattle.sets.proofs.Words.{minus_below}
 use Rattle.area.proofs.Changes.{put_none, put_as, local_gone, local_present, local_absent}
 use native.Mathlib.Omega.{arith}
-use borrow.Author.Rules.{rules}
 use Rattle.area.proofs.alter_local.Goals as goal
 
 pub word_of-requires : goal.word_of-requires
-word_of-requires c =
-    (
-      omega (arith, c.without-others.ensures, minus_below 32 c.emitted_in-o.result (only c.args.signal) (omega (arith, c.emitted_in-o.ensures))),
-      omega (arith, c.code_in-code.ensures),
-      c.forget-rest.ensures.0,
-    )
+word_of-requires c = (
+  omega (arith, c.without-others.ensures, minus_below 32 c.emitted_in-o.result (only c.args.signal) (omega (arith, c.emitted_in-o.ensures))),
+  omega (arith, c.code_in-code.ensures),
+  c.forget-rest.ensures.0,
+)
 
 pub returns-then-contains : goal.returns-then-contains
 returns-then-contains c =

@@ -1,11 +1,9 @@
 -- A row goes, or stays changed: case by case.
 use mathlib.Core.Path.{sym, ◌∙◌}
-use borrow.Author.Tests.{not-true, not-false}
 use Rattle.sets.specs.Set.{only}
 use Rattle.sets.proofs.Words.{minus_below}
 use Rattle.area.proofs.Changes.{through_below, put_none, put_as, hide_none, hide_one, local_is, given_is, going_none, going_one, caught_one}
 use native.Mathlib.Omega.{arith}
-use borrow.Author.Rules.{rules}
 use Rattle.area.proofs.alter_one.Goals as goal
 
 pub returns-then-not-contains : goal.returns-then-not-contains
@@ -14,12 +12,11 @@ returns-then-not-contains c =
     c.in-Hide.is c.emitted_in-o.ensures (sym c.contains.ensures ∙ c.if-not-contains.true))
 
 pub word_of-requires : goal.word_of-requires
-word_of-requires c =
-    (
-      omega (arith, c.without-rest.ensures, minus_below 32 c.emitted_in-o.result (only c.in-Hide.signal) (omega (arith, c.emitted_in-o.ensures))),
-      omega (arith, c.code_in.ensures),
-      omega (arith, c.condition_in.ensures),
-    )
+word_of-requires c = (
+  omega (arith, c.without-rest.ensures, minus_below 32 c.emitted_in-o.result (only c.in-Hide.signal) (omega (arith, c.emitted_in-o.ensures))),
+  omega (arith, c.code_in.ensures),
+  omega (arith, c.condition_in.ensures),
+)
 
 pub word_of-requires-in-Given : goal.word_of-requires-in-Given
 word_of-requires-in-Given c = (omega (arith, c.emitted_in.ensures), omega (arith, c.code_in-in-Given.ensures), omega (arith, c.condition_in-both.ensures))

@@ -6,7 +6,6 @@ use lib.Bits.{bit_and}
 use lib.Dec.{eqb}
 use Rattle.sets.specs.Set.{◌intersect◌}
 use Rattle.esterel.specs.inner.Conditions.{clashes}
-use borrow.Author.Rules.{rules}
 use Rattle.area.proofs.clashing.Goals as goal
 
 pub returns : goal.returns

@@ -1,7 +1,6 @@
 -- By the test.
 use mathlib.Core.Path.{sym, ◌∙◌}
 use borrow.Author.Tests.{eqb-true, eqb-false}
-use borrow.Author.Rules.{rules}
 use Rattle.area.proofs.ends.Goals as goal
 
 pub returns : goal.returns

@@ -1,7 +1,6 @@
 -- Both sets lose the slot.
 use Rattle.area.proofs.Rows.{forget_below, forget_word}
 use native.Mathlib.Omega.{arith}
-use borrow.Author.Rules.{rules}
 use Rattle.area.proofs.forget.Goals as goal
 
 pub overflow_mul-result : goal.overflow_mul-result

@@ -2,7 +2,6 @@
 use lib.Bits.{or_lt}
 use Rattle.area.proofs.Products.{join_sequence, join_parallel}
 use native.Mathlib.Omega.{arith}
-use borrow.Author.Rules.{rules}
 use Rattle.area.proofs.join.Goals as goal
 
 pub word_of-requires : goal.word_of-requires

@@ -1,9 +1,7 @@
-use mathlib.Core.Path.{sym, ◌∙◌}
 use mathlib.Core.List.{◌++◌}
 use Prim.Native.Nat.{◌+◌, ◌-◌, ◌≤◌}
 use Rattle.area.specs.inner.Area.{rows}
-use Rattle.area.proofs.Merges.{Merging, merging_start, merging_first, merging_second, merging_both, merging_end_first, merging_end_second}
-use native.Mathlib.Omega.{arith}
+use Rattle.area.proofs.Merges.{Merging}
 use Rattle.area.proofs.merge_down.Given as goal
 
 abbrev pub invariant-loop-i : goal.invariant-loop-i

@@ -1,6 +1,5 @@
 -- By the slots that have to be there, then by those that have to be not.
 use Rattle.area.proofs.Rows.{not_met, is_met}
-use borrow.Author.Rules.{rules}
 use Rattle.area.proofs.met.Goals as goal
 
 pub returns-then-minus-ne0 : goal.returns-then-minus-ne0

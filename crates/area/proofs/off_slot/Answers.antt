@@ -1,6 +1,5 @@
 -- The slot is one of the lower twelve bits.
 use Rattle.area.proofs.Rows.{slot_off}
-use borrow.Author.Rules.{rules}
 use Rattle.area.proofs.off_slot.Goals as goal
 
 pub returns : goal.returns

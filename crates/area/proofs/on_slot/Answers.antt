@@ -1,7 +1,6 @@
 -- The slot is one of the upper twelve bits.
 use Rattle.area.proofs.Rows.{slot_on, slot_below}
 use native.Mathlib.Omega.{arith}
-use borrow.Author.Rules.{rules}
 use Rattle.area.proofs.on_slot.Goals as goal
 
 pub overflow_mul-result : goal.overflow_mul-result

@@ -1,6 +1,5 @@
 -- The list has one place, and it is filled.
 use Rattle.area.proofs.Made.{made_single}
-use borrow.Author.Rules.{rules}
 use Rattle.area.proofs.one.Goals as goal
 
 pub returns : goal.returns

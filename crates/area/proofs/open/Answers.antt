@@ -1,7 +1,6 @@
 -- The invariant: the words from j on are moved, and the others are as they were.
-use Prim.Native.Nat.{◌-◌}
 use mathlib.Core.Path.{refl}
-use Rattle.area.proofs.Moves.{Opening, opening_step}
+use Rattle.area.proofs.Moves.{opening_step}
 use native.Mathlib.Omega.{arith}
 use Rattle.area.proofs.open.Goals as goal
 

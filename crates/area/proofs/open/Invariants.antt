@@ -1,7 +1,5 @@
 use Prim.Native.Nat.{◌-◌}
-use mathlib.Core.Path.{refl}
-use Rattle.area.proofs.Moves.{Opening, opening_step}
-use native.Mathlib.Omega.{arith}
+use Rattle.area.proofs.Moves.{Opening}
 use Rattle.area.proofs.open.Given as goal
 
 abbrev pub invariant-loop-j : goal.invariant-loop-j

@@ -3,7 +3,6 @@ use mathlib.Core.Path.{sym, ◌∙◌}
 use Rattle.area.specs.inner.Layout.{packed}
 use Rattle.area.proofs.Moves.{placed_none, placed_last, placed_search}
 use native.Mathlib.Omega.{arith}
-use borrow.Author.Rules.{rules}
 use Rattle.area.proofs.place.Goals as goal
 
 pub returns-then-n-eq0 : goal.returns-then-n-eq0

@@ -1,7 +1,5 @@
 -- The invariant: what the rows from the i-th on give is still to be put in.
-use Prim.Native.Nat.{◌+◌, ◌*◌, ◌-◌}
-use Rattle.area.proofs.Made.{Filling}
-use Rattle.area.proofs.Products.{products, products_goal, products_start, products_over, products_step, products_end}
+use Rattle.area.proofs.Products.{products_start, products_over, products_step, products_end}
 use native.Mathlib.Omega.{arith}
 use Rattle.area.proofs.product_of_many.Goals as goal
 

@@ -1,7 +1,6 @@
 use Prim.Native.Nat.{◌+◌, ◌*◌, ◌-◌}
 use Rattle.area.proofs.Made.{Filling}
-use Rattle.area.proofs.Products.{products, products_goal, products_start, products_over, products_step, products_end}
-use native.Mathlib.Omega.{arith}
+use Rattle.area.proofs.Products.{products, products_goal}
 use Rattle.area.proofs.product_of_many.Given as goal
 
 abbrev pub invariant-loop-i : goal.invariant-loop-i

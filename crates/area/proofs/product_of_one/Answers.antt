@@ -1,8 +1,6 @@
 -- The row stands alone, or what it gives with the rows from the j-th on is still to be put in.
 use native.Mathlib.Omega.{arith}
-use Prim.Native.Nat.{◌+◌, ◌*◌, ◌-◌, ◌≤◌}
-use Rattle.area.proofs.Made.{Passing}
-use Rattle.area.proofs.Products.{single, single_joins, single_alone, single_start, single_step, single_end}
+use Rattle.area.proofs.Products.{single_alone, single_start, single_step, single_end}
 use Rattle.area.proofs.product_of_one.Goals as goal
 
 pub alone-requires : goal.alone-requires
@@ -24,12 +22,11 @@ put_unless_clash-n-requires c =
     (c.loop-j.invariant.1.filling.small, omega (arith, c.loop-j.invariant.1.behind, c.loop-j.invariant.1.filling.same), c.loop-j.invariant.1.filling.rising)
 
 pub loop-j-preserved : goal.loop-j-preserved
-loop-j-preserved c =
-    (
-      omega arith,
-      single_step c.args.how c.args.area.now c.args.base c.args.n2 c.loop-j.area c.loop-j.n c.loop-j.j c.loop-j.invariant.1 _ _ _
-          c.loop-j-test.true c.requires.0 c.join-x.ensures c.put_unless_clash-n.ensures,
-    )
+loop-j-preserved c = (
+  omega arith,
+  single_step c.args.how c.args.area.now c.args.base c.args.n2 c.loop-j.area c.loop-j.n c.loop-j.j c.loop-j.invariant.1 _ _ _
+      c.loop-j-test.true c.requires.0 c.join-x.ensures c.put_unless_clash-n.ensures,
+)
 
 pub shape_of-area : goal.shape_of-area
 shape_of-area c = c.loop-j.invariant.1.filling.same

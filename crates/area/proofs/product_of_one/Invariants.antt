@@ -1,7 +1,6 @@
-use native.Mathlib.Omega.{arith}
 use Prim.Native.Nat.{◌+◌, ◌*◌, ◌-◌, ◌≤◌}
 use Rattle.area.proofs.Made.{Passing}
-use Rattle.area.proofs.Products.{single, single_joins, single_alone, single_start, single_step, single_end}
+use Rattle.area.proofs.Products.{single, single_joins}
 use Rattle.area.proofs.product_of_one.Given as goal
 
 abbrev pub invariant-loop-j : goal.invariant-loop-j

@@ -1,6 +1,5 @@
 -- The place is found; where (w, l) is not there yet, what stands above it moves up.
 use Rattle.area.proofs.Puts.{put_there, put_full, put_new}
-use borrow.Author.Rules.{rules}
 use Rattle.area.proofs.put.Goals as goal
 
 pub returns-then-there : goal.returns-then-there

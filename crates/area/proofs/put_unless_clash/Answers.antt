@@ -3,7 +3,6 @@ use mathlib.Core.Path.{sym, ◌∙◌}
 use mathlib.Core.List.{[], ◌∷◌}
 use Rattle.area.specs.inner.Layout.{packed}
 use Rattle.area.proofs.Changes.{clash_none, clash_one, put_none, put_as}
-use borrow.Author.Rules.{rules}
 use Rattle.area.proofs.put_unless_clash.Goals as goal
 
 pub returns-then-clashing : goal.returns-then-clashing

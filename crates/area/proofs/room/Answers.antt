@@ -5,7 +5,6 @@ use borrow.Author.Tests.{leb-true, leb-false}
 use Rattle.sets.proofs.Booleans.{clash}
 use mathlib.Core.Path.{refl}
 use native.Mathlib.Omega.{arith}
-use borrow.Author.Rules.{rules}
 use Rattle.area.proofs.room.Goals as goal
 
 pub returns-then-n-gt-MOST : goal.returns-then-n-gt-MOST

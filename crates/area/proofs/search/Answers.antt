@@ -2,7 +2,7 @@
 use mathlib.Core.Path.{sym, ◌∙◌}
 use Prim.Native.Nat.{◌+◌, ◌-◌, ◌/◌}
 use Rattle.area.specs.inner.Layout.{packed}
-use Rattle.area.proofs.Moves.{Searching, searching_low, searching_high, searching_end}
+use Rattle.area.proofs.Moves.{searching_low, searching_high, searching_end}
 use native.Mathlib.Omega.{arith}
 use Rattle.area.proofs.search.Goals as goal
 

@@ -1,8 +1,6 @@
-use mathlib.Core.Path.{sym, ◌∙◌}
-use Prim.Native.Nat.{◌+◌, ◌-◌, ◌/◌}
+use Prim.Native.Nat.{◌-◌}
 use Rattle.area.specs.inner.Layout.{packed}
-use Rattle.area.proofs.Moves.{Searching, searching_low, searching_high, searching_end}
-use native.Mathlib.Omega.{arith}
+use Rattle.area.proofs.Moves.{Searching}
 use Rattle.area.proofs.search.Given as goal
 
 abbrev pub invariant-loop-low : goal.invariant-loop-low

@@ -1,8 +1,7 @@
 -- The invariant: j words are copied, and the others are as they were.
 use native.Mathlib.Omega.{arith}
-use Prim.Native.Nat.{◌-◌}
 use mathlib.Core.Path.{refl}
-use Rattle.area.proofs.Moves.{Shifting, shifting_step, shifting_end, shifted_there}
+use Rattle.area.proofs.Moves.{shifting_step, shifting_end, shifted_there}
 use Rattle.area.proofs.shift.Goals as goal
 
 pub returns-then-t-f : goal.returns-then-t-f

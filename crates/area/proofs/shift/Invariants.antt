@@ -1,7 +1,5 @@
-use native.Mathlib.Omega.{arith}
 use Prim.Native.Nat.{◌-◌}
-use mathlib.Core.Path.{refl}
-use Rattle.area.proofs.Moves.{Shifting, shifting_step, shifting_end, shifted_there}
+use Rattle.area.proofs.Moves.{Shifting}
 use Rattle.area.proofs.shift.Given as goal
 
 abbrev pub invariant-loop-j : goal.invariant-loop-j

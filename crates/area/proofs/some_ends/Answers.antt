@@ -1,13 +1,10 @@
 -- The invariant: some row ends exactly if one from the i-th on does.
-use mathlib.Core.Path.{◌≡◌, ap}
-use Prim.Native.Nat.{◌+◌, ◌*◌, ◌-◌}
+use mathlib.Core.Path.{ap}
 use mathlib.Core.List.{List}
 use Rattle.esterel.specs.Listing.{some_ends}
 use Rattle.esterel.specs.inner.Rows.{Row, reactions}
-use Rattle.area.specs.inner.Area.{rows}
 use Rattle.area.proofs.Rows.{rows_whole}
 use Rattle.area.proofs.Changes.{ends_here, ends_next, ends_not}
-use native.Mathlib.Omega.{arith}
 use Rattle.area.proofs.some_ends.Goals as goal
 
 pub loop-i-init : goal.loop-i-init

@@ -1,7 +1,6 @@
 -- The row before the place of the second list’s first row is not above it.
 use native.Mathlib.Omega.{arith}
 use Prim.Native.Nat.{◌-◌}
-use borrow.Author.Rules.{rules}
 use Rattle.area.proofs.staying.Goals as goal
 
 pub returns-then-p-eq0 : goal.returns-then-p-eq0

@@ -2,7 +2,6 @@
 use lib.ListN.{length-set}
 use Rattle.area.proofs.Moves.{stored}
 use native.Mathlib.Omega.{arith}
-use borrow.Author.Rules.{rules}
 use Rattle.area.proofs.store.Goals as goal
 
 pub bounds-area-q-2 : goal.bounds-area-q-2

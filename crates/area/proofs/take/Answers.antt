@@ -1,6 +1,5 @@
 -- The row is read and stored.
 use Rattle.area.proofs.Moves.{taken}
-use borrow.Author.Rules.{rules}
 use Rattle.area.proofs.take.Goals as goal
 
 pub returns : goal.returns

@@ -3,7 +3,6 @@ use mathlib.Core.Path.{sym, ◌∙◌}
 use borrow.Author.Tests.{eqb-true}
 use Rattle.esterel.specs.inner.Conditions.{always}
 use Rattle.area.proofs.Rows.{condition_low}
-use borrow.Author.Rules.{rules}
 use Rattle.area.proofs.unconditional.Goals as goal
 
 pub returns : goal.returns

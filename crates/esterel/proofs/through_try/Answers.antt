@@ -1,6 +1,5 @@
 -- `esterel::through_try` meets its contract.
 use native.Mathlib.Omega.{arith}
-use borrow.Author.Rules.{rules}
 use Rattle.esterel.proofs.Passing.{as_cast, first_fits, second_fits}
 use Rattle.esterel.proofs.through_try.Goals as goal
 

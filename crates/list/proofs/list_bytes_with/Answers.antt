@@ -4,7 +4,6 @@ use lib.ListN.{length}
 use mathlib.Core.Path.{ap}
 use Rattle.list.specs.Answers.{fitted}
 use Rattle.list.proofs.Deliveries.{bytes_refused, bytes_as, passed_on, count_fits, count_found}
-use borrow.Author.Rules.{rules}
 use Rattle.list.proofs.list_bytes_with.Goals as goal
 
 pub returns-in_default : goal.returns-in_default

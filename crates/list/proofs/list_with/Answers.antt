@@ -3,7 +3,6 @@ use lib.ListN.{length}
 use mathlib.Core.Path.{ap}
 use Rattle.list.specs.Answers.{fitted}
 use Rattle.list.proofs.Deliveries.{delivered_refused, delivered_as, passed_on, count_fits, count_found}
-use borrow.Author.Rules.{rules}
 use Rattle.list.proofs.list_with.Goals as goal
 
 pub returns-in_default : goal.returns-in_default

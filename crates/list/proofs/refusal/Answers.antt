@@ -3,7 +3,6 @@ use mathlib.Core.Path.{ap, sym}
 use Rattle.table.specs.Outcomes.{number_of}
 use Rattle.list.specs.declared.Answer.{Answer}
 use Rattle.list.specs.Answers.{answer_outcome}
-use borrow.Author.Rules.{rules}
 use Rattle.list.proofs.refusal.Goals as goal
 
 pub returns-in-Refused : goal.returns-in-Refused

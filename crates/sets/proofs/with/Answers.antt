@@ -1,6 +1,5 @@
 -- `sets::with` meets its contract: a number below 64 is in a word of 64 bits.
 use mathlib.Core.Path.{◌∙◌, ap}
-use borrow.Author.Rules.{rules}
 use lib.Bits.{bit_or}
 use Rattle.sets.specs.Set.{◌union◌}
 use Rattle.sets.proofs.Members.{only_fits}

@@ -3,7 +3,6 @@ use mathlib.Core.Path.{ap, sym}
 use Rattle.table.specs.Outcomes.{number_of}
 use Rattle.step.specs.declared.Stepped.{Stepped}
 use Rattle.step.specs.Answers.{stepped_outcome}
-use borrow.Author.Rules.{rules}
 use Rattle.step.proofs.refusal.Goals as goal
 
 pub returns-in-Refused : goal.returns-in-Refused

@@ -1,7 +1,6 @@
 -- By what was prepared, the number of signals that are emitted free, and what looking comes to.
 use native.Mathlib.Omega.{arith}
 use Rattle.step.proofs.Answers.{unready_step, many_step, few_unknown, looked_step}
-use borrow.Author.Rules.{rules}
 use Rattle.step.proofs.step_with.Goals as goal
 
 pub emitted_free-free-requires : goal.emitted_free-free-requires

@@ -1,7 +1,6 @@
 -- By what the number says.
 use native.Mathlib.Omega.{arith}
 use Rattle.list.proofs.Limits.{answer_listed, answer_refused, answer_over}
-use borrow.Author.Rules.{rules}
 use Rattle.list.proofs.finding.answer_for.Goals as goal
 
 pub returns-then-n-le-MOST : goal.returns-then-n-le-MOST

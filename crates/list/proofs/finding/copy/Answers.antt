@@ -1,7 +1,6 @@
 -- The invariant: i words are copied.
-use Prim.Native.Nat.{◌-◌, ◌≤◌}
 use mathlib.Core.Path.{refl}
-use Rattle.list.proofs.Findings.{Copying, copying_step}
+use Rattle.list.proofs.Findings.{copying_step}
 use native.Mathlib.Omega.{arith}
 use Rattle.list.proofs.finding.copy.Goals as goal
 

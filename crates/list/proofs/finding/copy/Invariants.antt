@@ -1,7 +1,5 @@
 use Prim.Native.Nat.{◌-◌, ◌≤◌}
-use mathlib.Core.Path.{refl}
-use Rattle.list.proofs.Findings.{Copying, copying_step}
-use native.Mathlib.Omega.{arith}
+use Rattle.list.proofs.Findings.{Copying}
 use Rattle.list.proofs.finding.copy.Given as goal
 
 abbrev pub invariant-loop-i : goal.invariant-loop-i

@@ -2,7 +2,6 @@
 use mathlib.Core.Path.{refl, sym}
 use Rattle.list.proofs.Limits.{refused_finds, finds_as, unready_refused, ready_limited}
 use Rattle.list.proofs.Slotting.{none_slotted}
-use borrow.Author.Rules.{rules}
 use Rattle.list.proofs.finding.find.Goals as goal
 
 pub slotted-slotted-requires : goal.slotted-slotted-requires

@@ -1,7 +1,6 @@
 -- In the small area, or through the large one.
 use Rattle.list.proofs.Findings.{made_first, made_again}
 use Rattle.list.proofs.Limits.{finds_answer}
-use borrow.Author.Rules.{rules}
 use Rattle.list.proofs.finding.reactions.Goals as goal
 
 pub returns-then-n-le-OVER : goal.returns-then-n-le-OVER

@@ -1,6 +1,5 @@
 -- By the state; no statement is deeper than 60.
 use Rattle.list.proofs.Findings.{state_start, state_resumed, made_in}
-use borrow.Author.Rules.{rules}
 use Rattle.list.proofs.finding.rows_in.Goals as goal
 
 pub returns-in-Start : goal.returns-in-Start

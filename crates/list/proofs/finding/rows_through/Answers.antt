@@ -1,6 +1,5 @@
 -- The large area is never too small.
 use Rattle.list.proofs.Findings.{made_copied}
-use borrow.Author.Rules.{rules}
 use Rattle.list.proofs.finding.rows_through.Goals as goal
 
 pub returns : goal.returns

@@ -2,7 +2,6 @@
 use mathlib.Core.Path.{sym}
 use native.Mathlib.Omega.{arith}
 use lib.ListN.{get_or-eq_default}
-use borrow.Author.Rules.{rules}
 use Rattle.list.proofs.noting.at_place.Goals as goal
 
 pub returns-else-at-lt-MOST_NODES : goal.returns-else-at-lt-MOST_NODES

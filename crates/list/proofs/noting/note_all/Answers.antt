@@ -3,7 +3,7 @@ use mathlib.Core.Path.{◌≡◌, sym, ◌∙◌, subst}
 use Prim.Native.Nat.{ℕ}
 use native.Mathlib.Omega.{arith}
 use Rattle.list.specs.inner.Notes.{AllNoted}
-use Rattle.list.proofs.Passing.{Passed, one_back, passed_none, came_to, few_behind, passed_pause, passed_other}
+use Rattle.list.proofs.Passing.{one_back, passed_none, came_to, few_behind, passed_pause, passed_other}
 use Rattle.list.proofs.noting.note_all.Goals as goal
 
 pub loop-at-init : goal.loop-at-init

@@ -1,8 +1,4 @@
-use mathlib.Core.Path.{◌≡◌, sym, ◌∙◌, subst}
-use Prim.Native.Nat.{ℕ}
-use native.Mathlib.Omega.{arith}
-use Rattle.list.specs.inner.Notes.{AllNoted}
-use Rattle.list.proofs.Passing.{Passed, one_back, passed_none, came_to, few_behind, passed_pause, passed_other}
+use Rattle.list.proofs.Passing.{Passed}
 use Rattle.list.proofs.noting.note_all.Given as goal
 
 abbrev pub invariant-loop-at : goal.invariant-loop-at

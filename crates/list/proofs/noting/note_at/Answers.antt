@@ -4,7 +4,6 @@ use Prim.Native.Nat.{ℕ, max}
 use native.Mathlib.Omega.{arith}
 use Rattle.lister.specs.inner.Notes.{packed_note, from_of, behind_of, nest_of, nested_once}
 use Rattle.list.proofs.Passing.{noted_nothing, noted_pause, noted_leaf, noted_signal, noted_body, noted_pair, never_noted}
-use borrow.Author.Rules.{rules}
 use Rattle.list.proofs.noting.note_at.Goals as goal
 
 pub put_leaf-requires-in-1 : goal.put_leaf-requires-in-1

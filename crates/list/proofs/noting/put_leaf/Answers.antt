@@ -1,6 +1,5 @@
 -- The note of its numbers.
 use Rattle.list.proofs.Passing.{put_as}
-use borrow.Author.Rules.{rules}
 use Rattle.list.proofs.noting.put_leaf.Goals as goal
 
 pub returns : goal.returns

@@ -1,6 +1,5 @@
 -- The note of a kind that there is not.
 use Rattle.list.proofs.Passing.{put_as}
-use borrow.Author.Rules.{rules}
 use Rattle.list.proofs.noting.put_refused.Goals as goal
 
 pub returns : goal.returns

@@ -2,7 +2,6 @@
 use mathlib.Core.Path.{◌≡◌}
 use Prim.Native.Nat.{ℕ}
 use native.Mathlib.Omega.{arith}
-use borrow.Author.Rules.{rules}
 use Rattle.list.proofs.preparing.declares.Goals as goal
 
 pub returns-then-kind_of-ne-SIGNAL : goal.returns-then-kind_of-ne-SIGNAL

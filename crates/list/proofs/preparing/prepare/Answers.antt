@@ -1,6 +1,5 @@
 -- By the answer of check and the nesting of the root.
 use Rattle.list.proofs.Limits.{prepared_checked, loaded_passable, never_unknown, prepared_deep, prepared_ready}
-use borrow.Author.Rules.{rules}
 use Rattle.list.proofs.preparing.prepare.Goals as goal
 
 pub returns-in_default : goal.returns-in_default

@@ -1,11 +1,9 @@
 -- The invariant: so many signals at most are taken, the unknown ones among them.
 use mathlib.Core.Path.{ap, ◌∙◌}
-use Prim.Native.Nat.{ℕ, ◌≤◌}
+use Prim.Native.Nat.{ℕ}
 use native.Mathlib.Omega.{arith}
-use borrow.Author.Tests.{not-false}
 use Rattle.sets.specs.Set.{only, ◌union◌}
-use Rattle.list.proofs.Slotting.{Taken, taken_none, taken_more, taken_slotted, root_end}
-use borrow.Author.Rules.{rules}
+use Rattle.list.proofs.Slotting.{taken_none, taken_more, taken_slotted, root_end}
 use Rattle.list.proofs.preparing.slotted.Goals as goal
 
 pub overflow_cast-at : goal.overflow_cast-at

@@ -3,7 +3,6 @@ use lib.ListN.{length}
 use mathlib.Core.Path.{refl, sym}
 use Rattle.list.proofs.Limits.{held_length}
 use Rattle.list.proofs.Deliveries.{delivered_refused, delivered, short_signals, short_codes, short_labels, long_enough}
-use borrow.Author.Rules.{rules}
 use Rattle.list.proofs.writing.deliver.Goals as goal
 
 pub returns-then-o-count : goal.returns-then-o-count

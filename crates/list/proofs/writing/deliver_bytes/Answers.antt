@@ -4,7 +4,6 @@ use lib.ListN.{length}
 use mathlib.Core.Path.{refl, sym}
 use Rattle.list.proofs.Limits.{held_length}
 use Rattle.list.proofs.Deliveries.{bytes_refused, delivered_bytes, short_signals, short_codes, short_labels, long_enough}
-use native.Mathlib.Omega.{arith}
 use Rattle.list.proofs.writing.deliver_bytes.Goals as goal
 
 pub returns-then-o-count : goal.returns-then-o-count

@@ -2,8 +2,7 @@ use Prim.Native.Nat.{◌-◌, ◌≤◌}
 use mathlib.Core.List.{map}
 use Rattle.list.specs.Buffers.{reached_in}
 use Rattle.list.specs.inner.Finding.{reactions_held}
-use Rattle.list.proofs.Fills.{Filled, filled_none, filled_step, filled_all, fields_length, labels_at}
-use native.Mathlib.Omega.{arith}
+use Rattle.list.proofs.Fills.{Filled}
 use Rattle.list.proofs.writing.fill_labels.Given as goal
 
 abbrev pub invariant-loop-i : goal.invariant-loop-i

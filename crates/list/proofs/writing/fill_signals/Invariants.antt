@@ -1,10 +1,8 @@
-use mathlib.Core.Path.{◌∙◌}
-use Prim.Native.Nat.{◌*◌, ◌-◌, ◌≤◌}
+use Prim.Native.Nat.{◌-◌, ◌≤◌}
 use mathlib.Core.List.{map}
 use Rattle.list.specs.Buffers.{emitted_in}
 use Rattle.list.specs.inner.Finding.{reactions_held}
-use Rattle.list.proofs.Fills.{Filled, filled_none, filled_step, filled_all, fields_length, signals_at}
-use native.Mathlib.Omega.{arith}
+use Rattle.list.proofs.Fills.{Filled}
 use Rattle.list.proofs.writing.fill_signals.Given as goal
 
 abbrev pub invariant-loop-i : goal.invariant-loop-i

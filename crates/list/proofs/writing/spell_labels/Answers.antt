@@ -1,5 +1,5 @@
 -- The invariant: i numbers are written.
-use Prim.Native.Nat.{ℕ, ◌*◌, ◌-◌, ◌≤◌}
+use Prim.Native.Nat.{ℕ, ◌*◌}
 use mathlib.Core.Path.{subst}
 use mathlib.Core.List.{map}
 use Rattle.list.specs.Buffers.{spread, reached_in}
@@ -18,8 +18,7 @@ put_bytes-requires c = (omega arith, omega (arith, c.loop-i.invariant.1.same, c.
 
 pub loop-i-preserved : goal.loop-i-preserved
 loop-i-preserved c =
-    let l = fields_length reached_in c.args.area.now c.args.n in
-    (
+    let l = fields_length reached_in c.args.area.now c.args.n in (
       omega arith,
       filled_bytes 8 (map reached_in (reactions_held c.args.area.now c.args.n)) c.args.l.now c.loop-i.l _ c.loop-i.i _ c.loop-i.invariant.1 (omega arith)
           (labels_at c.args.area.now c.args.n c.loop-i.i c.loop-i-test.true) (omega (arith, c.requires.1)) c.put_bytes.ensures,

@@ -1,6 +1,6 @@
 -- The invariant: i numbers are written.
 use mathlib.Core.Path.{◌∙◌}
-use Prim.Native.Nat.{ℕ, ◌*◌, ◌-◌, ◌≤◌}
+use Prim.Native.Nat.{ℕ, ◌*◌}
 use mathlib.Core.Path.{subst}
 use mathlib.Core.List.{map}
 use Rattle.list.specs.Buffers.{spread, emitted_in}
@@ -23,8 +23,7 @@ put_bytes-requires c =
 
 pub loop-i-preserved : goal.loop-i-preserved
 loop-i-preserved c =
-    let l = fields_length emitted_in c.args.area.now c.args.n in
-    (
+    let l = fields_length emitted_in c.args.area.now c.args.n in (
       omega arith,
       filled_bytes 4 (map emitted_in (reactions_held c.args.area.now c.args.n)) c.args.o.now c.loop-i.o _ c.loop-i.i _ c.loop-i.invariant.1 (omega arith)
           (c.emitted_in.ensures ∙ signals_at c.args.area.now c.args.n c.loop-i.i c.loop-i-test.true) (omega (arith, c.requires.1)) c.put_bytes.ensures,

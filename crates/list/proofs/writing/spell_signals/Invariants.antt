@@ -1,11 +1,8 @@
-use mathlib.Core.Path.{◌∙◌}
-use Prim.Native.Nat.{ℕ, ◌*◌, ◌-◌, ◌≤◌}
-use mathlib.Core.Path.{subst}
+use Prim.Native.Nat.{◌*◌, ◌-◌, ◌≤◌}
 use mathlib.Core.List.{map}
 use Rattle.list.specs.Buffers.{spread, emitted_in}
 use Rattle.list.specs.inner.Finding.{reactions_held}
-use Rattle.list.proofs.Fills.{Filled, filled_none, filled_all, filled_bytes, spread_length, fields_length, signals_at}
-use native.Mathlib.Omega.{arith}
+use Rattle.list.proofs.Fills.{Filled}
 use Rattle.list.proofs.writing.spell_signals.Given as goal
 
 abbrev pub invariant-loop-i : goal.invariant-loop-i

@@ -1,7 +1,6 @@
 -- The larger of the two nestings.
 use mathlib.Core.Path.{ap}
 use Rattle.lister.specs.inner.Notes.{packed_note, from_of, behind_of}
-use borrow.Author.Rules.{rules}
 use Rattle.lister.proofs.noted.joined.Goals as goal
 
 pub returns : goal.returns

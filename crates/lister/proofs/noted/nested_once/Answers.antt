@@ -1,6 +1,5 @@
 -- By the test.
 use Rattle.lister.proofs.Fields.{note_deeper, note_kept}
-use borrow.Author.Rules.{rules}
 use Rattle.lister.proofs.noted.nested_once.Goals as goal
 
 pub returns-then-note-lt-DEEP : goal.returns-then-note-lt-DEEP

@@ -1,7 +1,6 @@
 -- The three numbers side by side.
 use mathlib.Core.Path.{refl}
 use Rattle.lister.specs.inner.Notes.{packed_note}
-use borrow.Author.Rules.{rules}
 use Rattle.lister.proofs.noted.note_with.Goals as goal
 
 pub returns : goal.returns

@@ -2,7 +2,6 @@
 use mathlib.Core.Path.{refl}
 use Rattle.sets.specs.Set.{◌minus◌}
 use Rattle.lister.specs.inner.Notes.{labels_noted}
-use borrow.Author.Rules.{rules}
 use Rattle.lister.proofs.noted.pauses_of.Goals as goal
 
 pub returns : goal.returns

@@ -2,19 +2,16 @@
 -- without a label of the state has none. The depth of the statement falls.
 use native.Mathlib.Omega.{arith}
 use mathlib.Core.Path.{◌≡◌, refl, sym, ◌∙◌, subst}
-use mathlib.Core.Logic.{⊎_elim}
 use mathlib.Core.Bool.{true}
 use mathlib.Core.List.{List, ◌++◌}
 use Prim.Native.Nat.{ℕ, ◌+◌, ◌≤◌, ◌<◌}
 use lib.ListN.{length, get_or}
-use borrow.Author.Tests.{not-true, not-false}
 use Rattle.sets.specs.Set.{◌intersect◌}
 use Rattle.esterel.specs.Statement.{depth, pauses}
-use Rattle.esterel.specs.Reactions.{State, resumed}
+use Rattle.esterel.specs.Reactions.{resumed}
 use Rattle.esterel.specs.Trimming.{names}
 use Rattle.esterel.specs.inner.CappedRows.{CappedRows, change_rows}
-use Rattle.table.specs.Reading.{kind_of_node, operand_of}
-use Rattle.table.proofs.Places.{none_of_kinds}
+use Rattle.table.specs.Reading.{kind_of_node}
 use Rattle.area.specs.declared.Change.{Change}
 use Rattle.area.specs.declared.Change.TheVariants.{Hide, Local, Caught}
 use Rattle.area.specs.declared.Pairing.TheVariants.{Parallel}
@@ -22,8 +19,7 @@ use Rattle.area.specs.inner.Rules.{change, product}
 use Rattle.area.specs.inner.Area.{Made, Altered}
 use Rattle.area.proofs.Made.{made_cramped}
 use Rattle.area.proofs.Rules.{capped_clashless}
-use Rattle.lister.specs.inner.Notes.{part_at, Resumable}
-use Rattle.lister.specs.inner.Slots.{Slotted}
+use Rattle.lister.specs.inner.Notes.{part_at}
 use Rattle.lister.specs.inner.Joins.{room_for}
 use Rattle.lister.proofs.Nodes.{not_known}
 use Rattle.lister.proofs.Slots.{slotted_more, slotted_none}
@@ -46,7 +42,7 @@ pauses_of-requires t c =
 pub returns-then-labels-pauses_of-eq0 : goal.returns-then-labels-pauses_of-eq0
 returns-then-labels-pauses_of-eq0 t c =
     resumed_quiet c.args.area.now c.args.base (c.args.base + room_for (part_at c.args.nodes.now c.args.at)) c.args.slotted (part_at c.args.nodes.now c.args.at) c.args.labels c.args.assumed c.args.unknown c.requires.0
-      (meets_not c.requires.1 c.args.labels c.pauses_of.ensures c.if-labels-pauses_of-eq0.true)
+    (meets_not c.requires.1 c.args.labels c.pauses_of.ensures c.if-labels-pauses_of-eq0.true)
 
 pub offset_bounds-nodes-at : goal.offset_bounds-nodes-at
 offset_bounds-nodes-at t c =
@@ -88,7 +84,7 @@ pub returns-then-not-named : goal.returns-then-not-named
 returns-then-not-named t c =
     let kind_is : (n : ℕ) → c.kind_of.result ≡ n → kind_of_node (get_or c.args.nodes.now c.args.at 0) ≡ n = λ n e. sym c.kind_of.ensures ∙ e in
     signal_unnamed c.requires.1.ready (kind_is 5 c.in-5.is) c.operand_of-operand.result c.operand_of-operand.ensures c.args.slotted (resumed c.args.labels) c.args.assumed c.args.unknown
-      (sym c.named.ensures ∙ c.if-not-named.true) (child_made (child_signal c.requires.1.ready (kind_is 5 c.in-5.is)) c.resume.ensures)
+    (sym c.named.ensures ∙ c.if-not-named.true) (child_made (child_signal c.requires.1.ready (kind_is 5 c.in-5.is)) c.resume.ensures)
 
 pub shape_of-area-then-not-named : goal.shape_of-area-then-not-named
 shape_of-area-then-not-named t c =
@@ -107,15 +103,14 @@ pub resume-n-requires : goal.resume-n-requires
 resume-n-requires t c =
     let Below : ℕ → Type 0 = λ i. Child c.requires.1.ready.count c.args.nodes.now c.args.at i in
     let falls_to : (i : ℕ) → Below i → depth (part_at c.args.nodes.now i) < t = λ i k. omega (arith, c.decreases, k.less) in
-    let kind_is : (n : ℕ) → c.kind_of.result ≡ n → kind_of_node (get_or c.args.nodes.now c.args.at 0) ≡ n = λ n e. sym c.kind_of.ensures ∙ e in
-    (
-        falls_to _ (child_signal c.requires.1.ready (kind_is 5 c.in-5.is)),
-        (
-          c.requires.0,
-          resumable_at c.requires.1 (child_signal c.requires.1.ready (kind_is 5 c.in-5.is)),
-          slotted_more c.operand_of-operand.result c.requires.2 (sym c.contains.ensures ∙ c.if-contains.true) c.with-more.ensures,
-        ),
-      )
+    let kind_is : (n : ℕ) → c.kind_of.result ≡ n → kind_of_node (get_or c.args.nodes.now c.args.at 0) ≡ n = λ n e. sym c.kind_of.ensures ∙ e in (
+      falls_to _ (child_signal c.requires.1.ready (kind_is 5 c.in-5.is)),
+      (
+        c.requires.0,
+        resumable_at c.requires.1 (child_signal c.requires.1.ready (kind_is 5 c.in-5.is)),
+        slotted_more c.operand_of-operand.result c.requires.2 (sym c.contains.ensures ∙ c.if-contains.true) c.with-more.ensures,
+      ),
+    )
 
 pub slot_of-slot-requires : goal.slot_of-slot-requires
 slot_of-slot-requires t c =
@@ -130,12 +125,12 @@ pub returns-then-m-ne-OVER : goal.returns-then-m-ne-OVER
 returns-then-m-ne-OVER t c =
     let Below : ℕ → Type 0 = λ i. Child c.requires.1.ready.count c.args.nodes.now c.args.at i in
     let changed_child : (i : ℕ) (a b c₂ : List ℕ) (n r : ℕ) (v : CappedRows) → (f : Change) → Below i → Made a b c.args.base (c.args.base + room_for (part_at c.args.nodes.now i)) v n
-      → Altered f b c₂ c.args.base n r → Made a c₂ c.args.base (c.args.base + room_for (part_at c.args.nodes.now c.args.at)) (change_rows (change f) v) r = λ i a b c₂ n r v f k m x. altered f (child_made k m) x in
+    → Altered f b c₂ c.args.base n r → Made a c₂ c.args.base (c.args.base + room_for (part_at c.args.nodes.now c.args.at)) (change_rows (change f) v) r = λ i a b c₂ n r v f k m x. altered f (child_made k m) x in
     let kind_is : (n : ℕ) → c.kind_of.result ≡ n → kind_of_node (get_or c.args.nodes.now c.args.at 0) ≡ n = λ n e. sym c.kind_of.ensures ∙ e in
     let is_named : names c.operand_of-operand.result (part_at c.args.nodes.now (c.args.at + 1)) ≡ true = sym c.named.ensures ∙ c.if-not-named.false in
     signal_tried c.requires.1.ready (kind_is 5 c.in-5.is) c.operand_of-operand.result c.operand_of-operand.ensures c.args.slotted (resumed c.args.labels) c.args.assumed c.args.unknown
-      (sym c.contains.ensures ∙ c.if-contains.true) c.slot_of-slot.result c.with-more.result c.slot_of-slot.ensures c.with-more.ensures
-      (changed_child _ _ _ _ _ _ _ (Local c.operand_of-operand.result c.slot_of-slot.result) (child_signal c.requires.1.ready (kind_is 5 c.in-5.is)) c.resume-n.ensures c.hide_unknown-m.ensures) is_named c.if-m-ne-OVER.true
+    (sym c.contains.ensures ∙ c.if-contains.true) c.slot_of-slot.result c.with-more.result c.slot_of-slot.ensures c.with-more.ensures
+    (changed_child _ _ _ _ _ _ _ (Local c.operand_of-operand.result c.slot_of-slot.result) (child_signal c.requires.1.ready (kind_is 5 c.in-5.is)) c.resume-n.ensures c.hide_unknown-m.ensures) is_named c.if-m-ne-OVER.true
 
 pub shape_of-area-then-m-ne-OVER : goal.shape_of-area-then-m-ne-OVER
 shape_of-area-then-m-ne-OVER t c =
@@ -145,23 +140,23 @@ pub returns-then-unknown-ne0 : goal.returns-then-unknown-ne0
 returns-then-unknown-ne0 t c =
     let Below : ℕ → Type 0 = λ i. Child c.requires.1.ready.count c.args.nodes.now c.args.at i in
     let changed_child : (i : ℕ) (a b c₂ : List ℕ) (n r : ℕ) (v : CappedRows) → (f : Change) → Below i → Made a b c.args.base (c.args.base + room_for (part_at c.args.nodes.now i)) v n
-      → Altered f b c₂ c.args.base n r → Made a c₂ c.args.base (c.args.base + room_for (part_at c.args.nodes.now c.args.at)) (change_rows (change f) v) r = λ i a b c₂ n r v f k m x. altered f (child_made k m) x in
+    → Altered f b c₂ c.args.base n r → Made a c₂ c.args.base (c.args.base + room_for (part_at c.args.nodes.now c.args.at)) (change_rows (change f) v) r = λ i a b c₂ n r v f k m x. altered f (child_made k m) x in
     let met : c.args.labels intersect pauses (part_at c.args.nodes.now c.args.at) ≡ 0 → ⊥ = meets c.requires.1 c.args.labels c.pauses_of.ensures c.if-labels-pauses_of-eq0.false in
     let kind_is : (n : ℕ) → c.kind_of.result ≡ n → kind_of_node (get_or c.args.nodes.now c.args.at 0) ≡ n = λ n e. sym c.kind_of.ensures ∙ e in
     let is_named : names c.operand_of-operand.result (part_at c.args.nodes.now (c.args.at + 1)) ≡ true = sym c.named.ensures ∙ c.if-not-named.false in
     let gave : GaveUp c.args.area.now c.if-contains.area c.args.base (attempted c.args.slotted c.operand_of-operand.result (part_at c.args.nodes.now (c.args.at + 1)) (resumed c.args.labels) c.args.assumed c.args.unknown) = let up : List ℕ → Type 0 = λ z. GaveUp c.args.area.now z c.args.base (attempted c.args.slotted c.operand_of-operand.result (part_at c.args.nodes.now (c.args.at + 1)) (resumed c.args.labels) c.args.assumed c.args.unknown) in
-      let key = (kind_is 5 c.in-5.is) in
-      elim c.if-contains.branch [
-      then-contains+else-m-ne-OVER w ↦
-      subst up (sym w.area-is) (gave_up c.requires.1.ready key c.operand_of-operand.result c.operand_of-operand.ensures c.args.slotted (resumed c.args.labels) c.args.assumed c.args.unknown
-      (sym c.contains.ensures ∙ w.if-contains.true) w.slot_of-slot.result w.with-more.result w.slot_of-slot.ensures w.with-more.ensures
-      (changed_child _ _ _ _ _ _ _ (Local c.operand_of-operand.result w.slot_of-slot.result) (child_signal c.requires.1.ready (kind_is 5 c.in-5.is)) w.resume-n.ensures w.hide_unknown-m.ensures) w.if-m-ne-OVER.false)
-      | else-contains w ↦ subst up (sym w.area-is) (not_tried c.requires.1.ready key c.operand_of-operand.result c.operand_of-operand.ensures c.args.slotted (resumed c.args.labels) c.args.assumed c.args.unknown
-      c.args.area.now c.args.base (sym c.contains.ensures ∙ w.if-contains.false))
-      ] in
     let key = (kind_is 5 c.in-5.is) in
-      signal_passed c.requires.1.ready key c.operand_of-operand.result c.operand_of-operand.ensures c.args.slotted (resumed c.args.labels) c.args.assumed c.args.unknown
-      is_named gave (c.args.base + room_for (part_at c.args.nodes.now c.args.at)) c.if-unknown-ne0.true (signal_given_up c.requires.1.ready c.args.labels key met)
+    elim c.if-contains.branch [
+      | then-contains+else-m-ne-OVER w ↦
+          subst up (sym w.area-is) (gave_up c.requires.1.ready key c.operand_of-operand.result c.operand_of-operand.ensures c.args.slotted (resumed c.args.labels) c.args.assumed c.args.unknown
+          (sym c.contains.ensures ∙ w.if-contains.true) w.slot_of-slot.result w.with-more.result w.slot_of-slot.ensures w.with-more.ensures
+          (changed_child _ _ _ _ _ _ _ (Local c.operand_of-operand.result w.slot_of-slot.result) (child_signal c.requires.1.ready (kind_is 5 c.in-5.is)) w.resume-n.ensures w.hide_unknown-m.ensures) w.if-m-ne-OVER.false)
+      | else-contains w ↦ subst up (sym w.area-is) (not_tried c.requires.1.ready key c.operand_of-operand.result c.operand_of-operand.ensures c.args.slotted (resumed c.args.labels) c.args.assumed c.args.unknown
+          c.args.area.now c.args.base (sym c.contains.ensures ∙ w.if-contains.false))
+    ] in
+    let key = (kind_is 5 c.in-5.is) in
+    signal_passed c.requires.1.ready key c.operand_of-operand.result c.operand_of-operand.ensures c.args.slotted (resumed c.args.labels) c.args.assumed c.args.unknown
+    is_named gave (c.args.base + room_for (part_at c.args.nodes.now c.args.at)) c.if-unknown-ne0.true (signal_given_up c.requires.1.ready c.args.labels key met)
 
 pub shape_of-area-then-unknown-ne0 : goal.shape_of-area-then-unknown-ne0
 shape_of-area-then-unknown-ne0 t c =
@@ -177,18 +172,18 @@ resume-n-requires-in-5 t c =
     let Below : ℕ → Type 0 = λ i. Child c.requires.1.ready.count c.args.nodes.now c.args.at i in
     let falls_to : (i : ℕ) → Below i → depth (part_at c.args.nodes.now i) < t = λ i k. omega (arith, c.decreases, k.less) in
     let changed_child : (i : ℕ) (a b c₂ : List ℕ) (n r : ℕ) (v : CappedRows) → (f : Change) → Below i → Made a b c.args.base (c.args.base + room_for (part_at c.args.nodes.now i)) v n
-      → Altered f b c₂ c.args.base n r → Made a c₂ c.args.base (c.args.base + room_for (part_at c.args.nodes.now c.args.at)) (change_rows (change f) v) r = λ i a b c₂ n r v f k m x. altered f (child_made k m) x in
+    → Altered f b c₂ c.args.base n r → Made a c₂ c.args.base (c.args.base + room_for (part_at c.args.nodes.now c.args.at)) (change_rows (change f) v) r = λ i a b c₂ n r v f k m x. altered f (child_made k m) x in
     let kind_is : (n : ℕ) → c.kind_of.result ≡ n → kind_of_node (get_or c.args.nodes.now c.args.at 0) ≡ n = λ n e. sym c.kind_of.ensures ∙ e in
     let gave : GaveUp c.args.area.now c.if-contains.area c.args.base (attempted c.args.slotted c.operand_of-operand.result (part_at c.args.nodes.now (c.args.at + 1)) (resumed c.args.labels) c.args.assumed c.args.unknown) = let up : List ℕ → Type 0 = λ z. GaveUp c.args.area.now z c.args.base (attempted c.args.slotted c.operand_of-operand.result (part_at c.args.nodes.now (c.args.at + 1)) (resumed c.args.labels) c.args.assumed c.args.unknown) in
-      let key = (kind_is 5 c.in-5.is) in
-      elim c.if-contains.branch [
-      then-contains+else-m-ne-OVER w ↦
-      subst up (sym w.area-is) (gave_up c.requires.1.ready key c.operand_of-operand.result c.operand_of-operand.ensures c.args.slotted (resumed c.args.labels) c.args.assumed c.args.unknown
-      (sym c.contains.ensures ∙ w.if-contains.true) w.slot_of-slot.result w.with-more.result w.slot_of-slot.ensures w.with-more.ensures
-      (changed_child _ _ _ _ _ _ _ (Local c.operand_of-operand.result w.slot_of-slot.result) (child_signal c.requires.1.ready (kind_is 5 c.in-5.is)) w.resume-n.ensures w.hide_unknown-m.ensures) w.if-m-ne-OVER.false)
+    let key = (kind_is 5 c.in-5.is) in
+    elim c.if-contains.branch [
+      | then-contains+else-m-ne-OVER w ↦
+          subst up (sym w.area-is) (gave_up c.requires.1.ready key c.operand_of-operand.result c.operand_of-operand.ensures c.args.slotted (resumed c.args.labels) c.args.assumed c.args.unknown
+          (sym c.contains.ensures ∙ w.if-contains.true) w.slot_of-slot.result w.with-more.result w.slot_of-slot.ensures w.with-more.ensures
+          (changed_child _ _ _ _ _ _ _ (Local c.operand_of-operand.result w.slot_of-slot.result) (child_signal c.requires.1.ready (kind_is 5 c.in-5.is)) w.resume-n.ensures w.hide_unknown-m.ensures) w.if-m-ne-OVER.false)
       | else-contains w ↦ subst up (sym w.area-is) (not_tried c.requires.1.ready key c.operand_of-operand.result c.operand_of-operand.ensures c.args.slotted (resumed c.args.labels) c.args.assumed c.args.unknown
-      c.args.area.now c.args.base (sym c.contains.ensures ∙ w.if-contains.false))
-      ] in
+          c.args.area.now c.args.base (sym c.contains.ensures ∙ w.if-contains.false))
+    ] in
     let still_short : c.args.base ≤ length c.if-contains.area = omega (arith, c.requires.0, gave.same) in
     (falls_to _ (child_signal c.requires.1.ready (kind_is 5 c.in-5.is)), (still_short, resumable_at c.requires.1 (child_signal c.requires.1.ready (kind_is 5 c.in-5.is)), slotted_none c.requires.2))
 
@@ -200,22 +195,22 @@ pub above-top-requires : goal.above-top-requires
 above-top-requires t c =
     let Below : ℕ → Type 0 = λ i. Child c.requires.1.ready.count c.args.nodes.now c.args.at i in
     let changed_child : (i : ℕ) (a b c₂ : List ℕ) (n r : ℕ) (v : CappedRows) → (f : Change) → Below i → Made a b c.args.base (c.args.base + room_for (part_at c.args.nodes.now i)) v n
-      → Altered f b c₂ c.args.base n r → Made a c₂ c.args.base (c.args.base + room_for (part_at c.args.nodes.now c.args.at)) (change_rows (change f) v) r = λ i a b c₂ n r v f k m x. altered f (child_made k m) x in
+    → Altered f b c₂ c.args.base n r → Made a c₂ c.args.base (c.args.base + room_for (part_at c.args.nodes.now c.args.at)) (change_rows (change f) v) r = λ i a b c₂ n r v f k m x. altered f (child_made k m) x in
     let kind_is : (n : ℕ) → c.kind_of.result ≡ n → kind_of_node (get_or c.args.nodes.now c.args.at 0) ≡ n = λ n e. sym c.kind_of.ensures ∙ e in
     let gave : GaveUp c.args.area.now c.if-contains.area c.args.base (attempted c.args.slotted c.operand_of-operand.result (part_at c.args.nodes.now (c.args.at + 1)) (resumed c.args.labels) c.args.assumed c.args.unknown) = let up : List ℕ → Type 0 = λ z. GaveUp c.args.area.now z c.args.base (attempted c.args.slotted c.operand_of-operand.result (part_at c.args.nodes.now (c.args.at + 1)) (resumed c.args.labels) c.args.assumed c.args.unknown) in
-      let key = (kind_is 5 c.in-5.is) in
-      elim c.if-contains.branch [
-      then-contains+else-m-ne-OVER w ↦
-      subst up (sym w.area-is) (gave_up c.requires.1.ready key c.operand_of-operand.result c.operand_of-operand.ensures c.args.slotted (resumed c.args.labels) c.args.assumed c.args.unknown
-      (sym c.contains.ensures ∙ w.if-contains.true) w.slot_of-slot.result w.with-more.result w.slot_of-slot.ensures w.with-more.ensures
-      (changed_child _ _ _ _ _ _ _ (Local c.operand_of-operand.result w.slot_of-slot.result) (child_signal c.requires.1.ready (kind_is 5 c.in-5.is)) w.resume-n.ensures w.hide_unknown-m.ensures) w.if-m-ne-OVER.false)
+    let key = (kind_is 5 c.in-5.is) in
+    elim c.if-contains.branch [
+      | then-contains+else-m-ne-OVER w ↦
+          subst up (sym w.area-is) (gave_up c.requires.1.ready key c.operand_of-operand.result c.operand_of-operand.ensures c.args.slotted (resumed c.args.labels) c.args.assumed c.args.unknown
+          (sym c.contains.ensures ∙ w.if-contains.true) w.slot_of-slot.result w.with-more.result w.slot_of-slot.ensures w.with-more.ensures
+          (changed_child _ _ _ _ _ _ _ (Local c.operand_of-operand.result w.slot_of-slot.result) (child_signal c.requires.1.ready (kind_is 5 c.in-5.is)) w.resume-n.ensures w.hide_unknown-m.ensures) w.if-m-ne-OVER.false)
       | else-contains w ↦ subst up (sym w.area-is) (not_tried c.requires.1.ready key c.operand_of-operand.result c.operand_of-operand.ensures c.args.slotted (resumed c.args.labels) c.args.assumed c.args.unknown
-      c.args.area.now c.args.base (sym c.contains.ensures ∙ w.if-contains.false))
-      ] in
+          c.args.area.now c.args.base (sym c.contains.ensures ∙ w.if-contains.false))
+    ] in
     let still_short : c.args.base ≤ length c.if-contains.area = omega (arith, c.requires.0, gave.same) in
     let b = (child_signal c.requires.1.ready (kind_is 5 c.in-5.is)) in
-      let m = changed_child _ _ _ _ _ _ _ (Hide c.operand_of-operand.result) b c.resume-n-in-5.ensures c.hide_signal-n1.ensures in
-      (omega (arith, still_short, m.same), λ h. omega (arith, m.fits h, m.same))
+    let m = changed_child _ _ _ _ _ _ _ (Hide c.operand_of-operand.result) b c.resume-n-in-5.ensures c.hide_signal-n1.ensures in
+    (omega (arith, still_short, m.same), λ h. omega (arith, m.fits h, m.same))
 
 pub without-without-requires : goal.without-without-requires
 without-without-requires t c =
@@ -227,17 +222,17 @@ resume-n2-requires t c =
     let falls_to : (i : ℕ) → Below i → depth (part_at c.args.nodes.now i) < t = λ i k. omega (arith, c.decreases, k.less) in
     let kind_is : (n : ℕ) → c.kind_of.result ≡ n → kind_of_node (get_or c.args.nodes.now c.args.at 0) ≡ n = λ n e. sym c.kind_of.ensures ∙ e in
     let b = (child_signal c.requires.1.ready (kind_is 5 c.in-5.is)) in
-      (falls_to _ b, (c.above-top.ensures.within, resumable_at c.requires.1 b, slotted_none c.requires.2))
+    (falls_to _ b, (c.above-top.ensures.within, resumable_at c.requires.1 b, slotted_none c.requires.2))
 
 pub either-requires : goal.either-requires
 either-requires t c =
     let Below : ℕ → Type 0 = λ i. Child c.requires.1.ready.count c.args.nodes.now c.args.at i in
     let changed_child : (i : ℕ) (a b c₂ : List ℕ) (n r : ℕ) (v : CappedRows) → (f : Change) → Below i → Made a b c.args.base (c.args.base + room_for (part_at c.args.nodes.now i)) v n
-      → Altered f b c₂ c.args.base n r → Made a c₂ c.args.base (c.args.base + room_for (part_at c.args.nodes.now c.args.at)) (change_rows (change f) v) r = λ i a b c₂ n r v f k m x. altered f (child_made k m) x in
+    → Altered f b c₂ c.args.base n r → Made a c₂ c.args.base (c.args.base + room_for (part_at c.args.nodes.now c.args.at)) (change_rows (change f) v) r = λ i a b c₂ n r v f k m x. altered f (child_made k m) x in
     let kind_is : (n : ℕ) → c.kind_of.result ≡ n → kind_of_node (get_or c.args.nodes.now c.args.at 0) ≡ n = λ n e. sym c.kind_of.ensures ∙ e in
     let b = (child_signal c.requires.1.ready (kind_is 5 c.in-5.is)) in
-      let m = changed_child _ _ _ _ _ _ _ (Hide c.operand_of-operand.result) b c.resume-n-in-5.ensures c.hide_signal-n1.ensures in
-      beside_child b m c.above-top.ensures c.resume-n2.ensures
+    let m = changed_child _ _ _ _ _ _ _ (Hide c.operand_of-operand.result) b c.resume-n-in-5.ensures c.hide_signal-n1.ensures in
+    beside_child b m c.above-top.ensures c.resume-n2.ensures
 
 pub offset_bounds-ends-first : goal.offset_bounds-ends-first
 offset_bounds-ends-first t c =
@@ -301,12 +296,11 @@ resume-n-requires-in-7 t c =
 
 pub follow-n1-requires : goal.follow-n1-requires
 follow-n1-requires t c =
-    let kind_is : (n : ℕ) → c.kind_of.result ≡ n → kind_of_node (get_or c.args.nodes.now c.args.at 0) ≡ n = λ n e. sym c.kind_of.ensures ∙ e in
-    (
-        standing c.resume-n-in-7.ensures (capped_clashless c.args.slotted (part_at c.args.nodes.now (c.args.at + 1)) (resumed c.args.labels) c.args.assumed c.args.unknown c.requires.2.within),
-        ready_at c.requires.1.ready (child_then c.requires.1.ready (get_or c.args.ends.now (c.args.at + 1) 0) refl (kind_is 7 c.in-7.is)),
-        c.requires.2,
-      )
+    let kind_is : (n : ℕ) → c.kind_of.result ≡ n → kind_of_node (get_or c.args.nodes.now c.args.at 0) ≡ n = λ n e. sym c.kind_of.ensures ∙ e in (
+      standing c.resume-n-in-7.ensures (capped_clashless c.args.slotted (part_at c.args.nodes.now (c.args.at + 1)) (resumed c.args.labels) c.args.assumed c.args.unknown c.requires.2.within),
+      ready_at c.requires.1.ready (child_then c.requires.1.ready (get_or c.args.ends.now (c.args.at + 1) 0) refl (kind_is 7 c.in-7.is)),
+      c.requires.2,
+    )
 
 pub above-top-requires-in-7 : goal.above-top-requires-in-7
 above-top-requires-in-7 t c =
@@ -314,7 +308,7 @@ above-top-requires-in-7 t c =
     let less_room : (i : ℕ) → Below i → c.args.base + 128 + room_for (part_at c.args.nodes.now i) ≤ (c.args.base + room_for (part_at c.args.nodes.now c.args.at)) = λ i k. omega (arith, k.less) in
     let kind_is : (n : ℕ) → c.kind_of.result ≡ n → kind_of_node (get_or c.args.nodes.now c.args.at 0) ≡ n = λ n e. sym c.kind_of.ensures ∙ e in
     let m = followed (child_made (child_sequence c.requires.1.ready (kind_is 7 c.in-7.is)) c.resume-n-in-7.ensures) c.follow-n1.ensures (less_room _ (child_then c.requires.1.ready (get_or c.args.ends.now (c.args.at + 1) 0) refl (kind_is 7 c.in-7.is))) in
-      (omega (arith, c.requires.0, m.same), λ h. omega (arith, m.fits h, m.same))
+    (omega (arith, c.requires.0, m.same), λ h. omega (arith, m.fits h, m.same))
 
 pub resume-n2-requires-in-7 : goal.resume-n2-requires-in-7
 resume-n2-requires-in-7 t c =
@@ -329,7 +323,7 @@ either-requires-in-7 t c =
     let less_room : (i : ℕ) → Below i → c.args.base + 128 + room_for (part_at c.args.nodes.now i) ≤ (c.args.base + room_for (part_at c.args.nodes.now c.args.at)) = λ i k. omega (arith, k.less) in
     let kind_is : (n : ℕ) → c.kind_of.result ≡ n → kind_of_node (get_or c.args.nodes.now c.args.at 0) ≡ n = λ n e. sym c.kind_of.ensures ∙ e in
     let m = followed (child_made (child_sequence c.requires.1.ready (kind_is 7 c.in-7.is)) c.resume-n-in-7.ensures) c.follow-n1.ensures (less_room _ (child_then c.requires.1.ready (get_or c.args.ends.now (c.args.at + 1) 0) refl (kind_is 7 c.in-7.is))) in
-      beside_child (child_then c.requires.1.ready (get_or c.args.ends.now (c.args.at + 1) 0) refl (kind_is 7 c.in-7.is)) m c.above-top-in-7.ensures c.resume-n2-in-7.ensures
+    beside_child (child_then c.requires.1.ready (get_or c.args.ends.now (c.args.at + 1) 0) refl (kind_is 7 c.in-7.is)) m c.above-top-in-7.ensures c.resume-n2-in-7.ensures
 
 pub offset_bounds-ends-first-in-8 : goal.offset_bounds-ends-first-in-8
 offset_bounds-ends-first-in-8 t c =
@@ -362,7 +356,7 @@ pub returns-then-labels-pauses_of-eq0-2 : goal.returns-then-labels-pauses_of-eq0
 returns-then-labels-pauses_of-eq0-2 t c =
     let kind_is : (n : ℕ) → c.kind_of.result ≡ n → kind_of_node (get_or c.args.nodes.now c.args.at 0) ≡ n = λ n e. sym c.kind_of.ensures ∙ e in
     resumed_right c.requires.1.ready c.args.slotted c.args.labels c.args.assumed c.args.unknown (get_or c.args.ends.now (c.args.at + 1) 0) refl (kind_is 8 c.in-8.is)
-      (meets_not (resumable_at c.requires.1 (child_parallel c.requires.1.ready (kind_is 8 c.in-8.is))) c.args.labels c.pauses_of-in-8.ensures c.if-labels-pauses_of-eq0-2.true) (child_made (child_beside c.requires.1.ready (get_or c.args.ends.now (c.args.at + 1) 0) refl (kind_is 8 c.in-8.is)) c.resume-then-labels-pauses_of-eq0-2.ensures)
+    (meets_not (resumable_at c.requires.1 (child_parallel c.requires.1.ready (kind_is 8 c.in-8.is))) c.args.labels c.pauses_of-in-8.ensures c.if-labels-pauses_of-eq0-2.true) (child_made (child_beside c.requires.1.ready (get_or c.args.ends.now (c.args.at + 1) 0) refl (kind_is 8 c.in-8.is)) c.resume-then-labels-pauses_of-eq0-2.ensures)
 
 pub shape_of-area-then-labels-pauses_of-eq0-2 : goal.shape_of-area-then-labels-pauses_of-eq0-2
 shape_of-area-then-labels-pauses_of-eq0-2 t c =
@@ -385,7 +379,7 @@ returns-then-labels-pauses_of-eq0-3 t c =
     let kind_is : (n : ℕ) → c.kind_of.result ≡ n → kind_of_node (get_or c.args.nodes.now c.args.at 0) ≡ n = λ n e. sym c.kind_of.ensures ∙ e in
     let met_left : c.args.labels intersect pauses (part_at c.args.nodes.now (c.args.at + 1)) ≡ 0 → ⊥ = meets (resumable_at c.requires.1 (child_parallel c.requires.1.ready (kind_is 8 c.in-8.is))) c.args.labels c.pauses_of-in-8.ensures c.if-labels-pauses_of-eq0-2.false in
     resumed_left c.requires.1.ready c.args.slotted c.args.labels c.args.assumed c.args.unknown (get_or c.args.ends.now (c.args.at + 1) 0) refl (kind_is 8 c.in-8.is) met_left
-      (meets_not (resumable_at c.requires.1 (child_beside c.requires.1.ready (get_or c.args.ends.now (c.args.at + 1) 0) refl (kind_is 8 c.in-8.is))) c.args.labels c.pauses_of-in-8-2.ensures c.if-labels-pauses_of-eq0-3.true) (child_made (child_parallel c.requires.1.ready (kind_is 8 c.in-8.is)) c.resume-n1-in-8.ensures)
+    (meets_not (resumable_at c.requires.1 (child_beside c.requires.1.ready (get_or c.args.ends.now (c.args.at + 1) 0) refl (kind_is 8 c.in-8.is))) c.args.labels c.pauses_of-in-8-2.ensures c.if-labels-pauses_of-eq0-3.true) (child_made (child_parallel c.requires.1.ready (kind_is 8 c.in-8.is)) c.resume-n1-in-8.ensures)
 
 pub shape_of-area-then-labels-pauses_of-eq0-3 : goal.shape_of-area-then-labels-pauses_of-eq0-3
 shape_of-area-then-labels-pauses_of-eq0-3 t c =
@@ -416,12 +410,11 @@ resume-n-requires-in-9 t c =
 
 pub follow_again-requires : goal.follow_again-requires
 follow_again-requires t c =
-    let kind_is : (n : ℕ) → c.kind_of.result ≡ n → kind_of_node (get_or c.args.nodes.now c.args.at 0) ≡ n = λ n e. sym c.kind_of.ensures ∙ e in
-    (
-        standing c.resume-n-in-9.ensures (capped_clashless c.args.slotted (part_at c.args.nodes.now (c.args.at + 1)) (resumed c.args.labels) c.args.assumed c.args.unknown c.requires.2.within),
-        ready_at c.requires.1.ready (child_loop c.requires.1.ready (kind_is 9 c.in-9.is)),
-        c.requires.2,
-      )
+    let kind_is : (n : ℕ) → c.kind_of.result ≡ n → kind_of_node (get_or c.args.nodes.now c.args.at 0) ≡ n = λ n e. sym c.kind_of.ensures ∙ e in (
+      standing c.resume-n-in-9.ensures (capped_clashless c.args.slotted (part_at c.args.nodes.now (c.args.at + 1)) (resumed c.args.labels) c.args.assumed c.args.unknown c.requires.2.within),
+      ready_at c.requires.1.ready (child_loop c.requires.1.ready (kind_is 9 c.in-9.is)),
+      c.requires.2,
+    )
 
 pub resume-n-requires-in-10 : goal.resume-n-requires-in-10
 resume-n-requires-in-10 t c =
@@ -468,25 +461,25 @@ pub returns-else-unknown-ne0 : goal.returns-else-unknown-ne0
 returns-else-unknown-ne0 t c =
     let Below : ℕ → Type 0 = λ i. Child c.requires.1.ready.count c.args.nodes.now c.args.at i in
     let changed_child : (i : ℕ) (a b c₂ : List ℕ) (n r : ℕ) (v : CappedRows) → (f : Change) → Below i → Made a b c.args.base (c.args.base + room_for (part_at c.args.nodes.now i)) v n
-      → Altered f b c₂ c.args.base n r → Made a c₂ c.args.base (c.args.base + room_for (part_at c.args.nodes.now c.args.at)) (change_rows (change f) v) r = λ i a b c₂ n r v f k m x. altered f (child_made k m) x in
+    → Altered f b c₂ c.args.base n r → Made a c₂ c.args.base (c.args.base + room_for (part_at c.args.nodes.now c.args.at)) (change_rows (change f) v) r = λ i a b c₂ n r v f k m x. altered f (child_made k m) x in
     let kind_is : (n : ℕ) → c.kind_of.result ≡ n → kind_of_node (get_or c.args.nodes.now c.args.at 0) ≡ n = λ n e. sym c.kind_of.ensures ∙ e in
     let is_named : names c.operand_of-operand.result (part_at c.args.nodes.now (c.args.at + 1)) ≡ true = sym c.named.ensures ∙ c.if-not-named.false in
     let gave : GaveUp c.args.area.now c.if-contains.area c.args.base (attempted c.args.slotted c.operand_of-operand.result (part_at c.args.nodes.now (c.args.at + 1)) (resumed c.args.labels) c.args.assumed c.args.unknown) = let up : List ℕ → Type 0 = λ z. GaveUp c.args.area.now z c.args.base (attempted c.args.slotted c.operand_of-operand.result (part_at c.args.nodes.now (c.args.at + 1)) (resumed c.args.labels) c.args.assumed c.args.unknown) in
-      let key = (kind_is 5 c.in-5.is) in
-      elim c.if-contains.branch [
-      then-contains+else-m-ne-OVER w ↦
-      subst up (sym w.area-is) (gave_up c.requires.1.ready key c.operand_of-operand.result c.operand_of-operand.ensures c.args.slotted (resumed c.args.labels) c.args.assumed c.args.unknown
-      (sym c.contains.ensures ∙ w.if-contains.true) w.slot_of-slot.result w.with-more.result w.slot_of-slot.ensures w.with-more.ensures
-      (changed_child _ _ _ _ _ _ _ (Local c.operand_of-operand.result w.slot_of-slot.result) (child_signal c.requires.1.ready (kind_is 5 c.in-5.is)) w.resume-n.ensures w.hide_unknown-m.ensures) w.if-m-ne-OVER.false)
+    let key = (kind_is 5 c.in-5.is) in
+    elim c.if-contains.branch [
+      | then-contains+else-m-ne-OVER w ↦
+          subst up (sym w.area-is) (gave_up c.requires.1.ready key c.operand_of-operand.result c.operand_of-operand.ensures c.args.slotted (resumed c.args.labels) c.args.assumed c.args.unknown
+          (sym c.contains.ensures ∙ w.if-contains.true) w.slot_of-slot.result w.with-more.result w.slot_of-slot.ensures w.with-more.ensures
+          (changed_child _ _ _ _ _ _ _ (Local c.operand_of-operand.result w.slot_of-slot.result) (child_signal c.requires.1.ready (kind_is 5 c.in-5.is)) w.resume-n.ensures w.hide_unknown-m.ensures) w.if-m-ne-OVER.false)
       | else-contains w ↦ subst up (sym w.area-is) (not_tried c.requires.1.ready key c.operand_of-operand.result c.operand_of-operand.ensures c.args.slotted (resumed c.args.labels) c.args.assumed c.args.unknown
-      c.args.area.now c.args.base (sym c.contains.ensures ∙ w.if-contains.false))
-      ] in
+          c.args.area.now c.args.base (sym c.contains.ensures ∙ w.if-contains.false))
+    ] in
     let still_short : c.args.base ≤ length c.if-contains.area = omega (arith, c.requires.0, gave.same) in
     let b = (child_signal c.requires.1.ready (kind_is 5 c.in-5.is)) in
-      let m = changed_child _ _ _ _ _ _ _ (Hide c.operand_of-operand.result) b c.resume-n-in-5.ensures c.hide_signal-n1.ensures in
-      signal_twice c.requires.1.ready (kind_is 5 c.in-5.is) c.operand_of-operand.result c.operand_of-operand.ensures c.args.slotted (resumed c.args.labels) c.args.assumed c.args.unknown is_named
-      gave c.if-unknown-ne0.false c.with-with.result c.without-without.result c.with-with.ensures c.without-without.ensures
-      (joined_child b m c.above-top.ensures c.resume-n2.ensures ◌++◌ still_short c.either.ensures)
+    let m = changed_child _ _ _ _ _ _ _ (Hide c.operand_of-operand.result) b c.resume-n-in-5.ensures c.hide_signal-n1.ensures in
+    signal_twice c.requires.1.ready (kind_is 5 c.in-5.is) c.operand_of-operand.result c.operand_of-operand.ensures c.args.slotted (resumed c.args.labels) c.args.assumed c.args.unknown is_named
+    gave c.if-unknown-ne0.false c.with-with.result c.without-without.result c.with-with.ensures c.without-without.ensures
+    (joined_child b m c.above-top.ensures c.resume-n2.ensures ◌++◌ still_short c.either.ensures)
 
 pub shape_of-area-else-unknown-ne0 : goal.shape_of-area-else-unknown-ne0
 shape_of-area-else-unknown-ne0 t c =
@@ -496,7 +489,7 @@ pub returns-in-6 : goal.returns-in-6
 returns-in-6 t c =
     let kind_is : (n : ℕ) → c.kind_of.result ≡ n → kind_of_node (get_or c.args.nodes.now c.args.at 0) ≡ n = λ n e. sym c.kind_of.ensures ∙ e in
     resumed_present c.requires.1.ready c.args.slotted c.args.labels c.args.assumed c.args.unknown (get_or c.args.ends.now (c.args.at + 1) 0) refl (kind_is 6 c.in-6.is)
-      (joined_child (child_else c.requires.1.ready (get_or c.args.ends.now (c.args.at + 1) 0) refl (kind_is 6 c.in-6.is)) (child_made (child_present c.requires.1.ready (kind_is 6 c.in-6.is)) c.resume-n1.ensures) c.above-top-in-6.ensures c.resume-n2-in-6.ensures ◌++◌ c.requires.0 c.either-in-6.ensures)
+    (joined_child (child_else c.requires.1.ready (get_or c.args.ends.now (c.args.at + 1) 0) refl (kind_is 6 c.in-6.is)) (child_made (child_present c.requires.1.ready (kind_is 6 c.in-6.is)) c.resume-n1.ensures) c.above-top-in-6.ensures c.resume-n2-in-6.ensures ◌++◌ c.requires.0 c.either-in-6.ensures)
 
 pub shape_of-area-in-6 : goal.shape_of-area-in-6
 shape_of-area-in-6 t c =
@@ -508,8 +501,8 @@ returns-in-7 t c =
     let less_room : (i : ℕ) → Below i → c.args.base + 128 + room_for (part_at c.args.nodes.now i) ≤ (c.args.base + room_for (part_at c.args.nodes.now c.args.at)) = λ i k. omega (arith, k.less) in
     let kind_is : (n : ℕ) → c.kind_of.result ≡ n → kind_of_node (get_or c.args.nodes.now c.args.at 0) ≡ n = λ n e. sym c.kind_of.ensures ∙ e in
     let m = followed (child_made (child_sequence c.requires.1.ready (kind_is 7 c.in-7.is)) c.resume-n-in-7.ensures) c.follow-n1.ensures (less_room _ (child_then c.requires.1.ready (get_or c.args.ends.now (c.args.at + 1) 0) refl (kind_is 7 c.in-7.is))) in
-      resumed_sequence c.requires.1.ready c.args.slotted c.args.labels c.args.assumed c.args.unknown (get_or c.args.ends.now (c.args.at + 1) 0) refl (kind_is 7 c.in-7.is)
-      (joined_child (child_then c.requires.1.ready (get_or c.args.ends.now (c.args.at + 1) 0) refl (kind_is 7 c.in-7.is)) m c.above-top-in-7.ensures c.resume-n2-in-7.ensures ◌++◌ c.requires.0 c.either-in-7.ensures)
+    resumed_sequence c.requires.1.ready c.args.slotted c.args.labels c.args.assumed c.args.unknown (get_or c.args.ends.now (c.args.at + 1) 0) refl (kind_is 7 c.in-7.is)
+    (joined_child (child_then c.requires.1.ready (get_or c.args.ends.now (c.args.at + 1) 0) refl (kind_is 7 c.in-7.is)) m c.above-top-in-7.ensures c.resume-n2-in-7.ensures ◌++◌ c.requires.0 c.either-in-7.ensures)
 
 pub shape_of-area-in-7 : goal.shape_of-area-in-7
 shape_of-area-in-7 t c =
@@ -520,8 +513,8 @@ returns-else-labels-pauses_of-eq0-3 t c =
     let kind_is : (n : ℕ) → c.kind_of.result ≡ n → kind_of_node (get_or c.args.nodes.now c.args.at 0) ≡ n = λ n e. sym c.kind_of.ensures ∙ e in
     let met_left : c.args.labels intersect pauses (part_at c.args.nodes.now (c.args.at + 1)) ≡ 0 → ⊥ = meets (resumable_at c.requires.1 (child_parallel c.requires.1.ready (kind_is 8 c.in-8.is))) c.args.labels c.pauses_of-in-8.ensures c.if-labels-pauses_of-eq0-2.false in
     resumed_both c.requires.1.ready c.args.slotted c.args.labels c.args.assumed c.args.unknown (get_or c.args.ends.now (c.args.at + 1) 0) refl (kind_is 8 c.in-8.is) met_left
-      (meets (resumable_at c.requires.1 (child_beside c.requires.1.ready (get_or c.args.ends.now (c.args.at + 1) 0) refl (kind_is 8 c.in-8.is))) c.args.labels c.pauses_of-in-8-2.ensures c.if-labels-pauses_of-eq0-3.false)
-      (joined_child (child_beside c.requires.1.ready (get_or c.args.ends.now (c.args.at + 1) 0) refl (kind_is 8 c.in-8.is)) (child_made (child_parallel c.requires.1.ready (kind_is 8 c.in-8.is)) c.resume-n1-in-8.ensures) c.above-top-in-8.ensures c.resume-n2-in-8.ensures (product Parallel) c.requires.0 c.together.ensures)
+    (meets (resumable_at c.requires.1 (child_beside c.requires.1.ready (get_or c.args.ends.now (c.args.at + 1) 0) refl (kind_is 8 c.in-8.is))) c.args.labels c.pauses_of-in-8-2.ensures c.if-labels-pauses_of-eq0-3.false)
+    (joined_child (child_beside c.requires.1.ready (get_or c.args.ends.now (c.args.at + 1) 0) refl (kind_is 8 c.in-8.is)) (child_made (child_parallel c.requires.1.ready (kind_is 8 c.in-8.is)) c.resume-n1-in-8.ensures) c.above-top-in-8.ensures c.resume-n2-in-8.ensures (product Parallel) c.requires.0 c.together.ensures)
 
 pub shape_of-area-else-labels-pauses_of-eq0-3 : goal.shape_of-area-else-labels-pauses_of-eq0-3
 shape_of-area-else-labels-pauses_of-eq0-3 t c =
@@ -540,7 +533,7 @@ pub returns-in-10 : goal.returns-in-10
 returns-in-10 t c =
     let Below : ℕ → Type 0 = λ i. Child c.requires.1.ready.count c.args.nodes.now c.args.at i in
     let changed_child : (i : ℕ) (a b c₂ : List ℕ) (n r : ℕ) (v : CappedRows) → (f : Change) → Below i → Made a b c.args.base (c.args.base + room_for (part_at c.args.nodes.now i)) v n
-      → Altered f b c₂ c.args.base n r → Made a c₂ c.args.base (c.args.base + room_for (part_at c.args.nodes.now c.args.at)) (change_rows (change f) v) r = λ i a b c₂ n r v f k m x. altered f (child_made k m) x in
+    → Altered f b c₂ c.args.base n r → Made a c₂ c.args.base (c.args.base + room_for (part_at c.args.nodes.now c.args.at)) (change_rows (change f) v) r = λ i a b c₂ n r v f k m x. altered f (child_made k m) x in
     let kind_is : (n : ℕ) → c.kind_of.result ≡ n → kind_of_node (get_or c.args.nodes.now c.args.at 0) ≡ n = λ n e. sym c.kind_of.ensures ∙ e in
     list_try c.requires.1.ready c.args.slotted c.args.assumed c.args.unknown (resumed c.args.labels) c.requires.2.within (kind_is 10 c.in-10.is) (changed_child _ _ _ _ _ _ _ Caught (child_try c.requires.1.ready (kind_is 10 c.in-10.is)) c.resume-n-in-10.ensures c.catch_exits.ensures)
 
@@ -551,7 +544,7 @@ shape_of-area-in-10 t c =
 pub returns-in-11-to-15 : goal.returns-in-11-to-15
 returns-in-11-to-15 t c =
     absurd (not_known c.args.nodes.now c.args.at _ c.requires.1.ready.known c.kind_of.ensures
-      (omega arith))
+    (omega arith))
 
 pub returns-in_default : goal.returns-in_default
 returns-in_default t c =

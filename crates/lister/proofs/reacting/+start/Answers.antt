@@ -2,20 +2,17 @@
 -- statement falls.
 use native.Mathlib.Omega.{arith}
 use mathlib.Core.Path.{◌≡◌, refl, sym, ◌∙◌, subst}
-use mathlib.Core.Logic.{⊎_elim}
 use mathlib.Core.Bool.{true}
 use mathlib.Core.List.{List, ◌++◌}
 use Prim.Native.Nat.{ℕ, ◌+◌, ◌≤◌, ◌<◌}
 use lib.ListN.{length, get_or}
-use borrow.Author.Tests.{not-true, not-false}
 use Rattle.sets.specs.Set.{has}
 use Rattle.esterel.specs.Statement.{depth}
 use Rattle.esterel.specs.Reactions.{start as started}
 use Rattle.esterel.specs.Trimming.{names}
-use Rattle.esterel.specs.inner.CappedRows.{CappedRows, change_rows, capped_rows}
+use Rattle.esterel.specs.inner.CappedRows.{CappedRows, change_rows}
 use Rattle.table.proofs.Nodes.{depth_positive}
-use Rattle.table.specs.Reading.{kind_of_node, operand_of}
-use Rattle.table.proofs.Places.{none_of_kinds}
+use Rattle.table.specs.Reading.{kind_of_node}
 use Rattle.area.specs.declared.Change.{Change}
 use Rattle.area.specs.declared.Change.TheVariants.{Hide, Local, Given, Going, Caught}
 use Rattle.area.specs.declared.Pairing.TheVariants.{Parallel}
@@ -23,8 +20,7 @@ use Rattle.area.specs.inner.Rules.{change, product}
 use Rattle.area.specs.inner.Area.{Made, Altered}
 use Rattle.area.proofs.Rules.{capped_clashless}
 use Rattle.area.proofs.Made.{made_need, made_cramped}
-use Rattle.lister.specs.inner.Notes.{part_at, Startable}
-use Rattle.lister.specs.inner.Slots.{Slotted}
+use Rattle.lister.specs.inner.Notes.{part_at}
 use Rattle.lister.specs.inner.Joins.{room_for}
 use Rattle.lister.proofs.Nodes.{not_known}
 use Rattle.lister.proofs.Slots.{slot_few, slotted_more, slotted_none}
@@ -102,7 +98,7 @@ returns-then-not-named t c =
     let within_room : (i : ℕ) (a b : List ℕ) (n : ℕ) (v : CappedRows) → Below i → Made a b c.args.base (c.args.base + room_for (part_at c.args.nodes.now i)) v n → Made a b c.args.base (c.args.base + room_for (part_at c.args.nodes.now c.args.at)) v n = λ i a b n v k m. made_need (c.args.base + room_for (part_at c.args.nodes.now c.args.at)) m (let h = less_room _ k in omega arith) in
     let kind_is : (n : ℕ) → c.kind_of.result ≡ n → kind_of_node (get_or c.args.nodes.now c.args.at 0) ≡ n = λ n e. sym c.kind_of.ensures ∙ e in
     signal_unnamed c.requires.1 (kind_is 5 c.in-5.is) c.operand_of-operand.result c.operand_of-operand.ensures c.args.slotted started c.args.assumed c.args.unknown
-      (sym c.named.ensures ∙ c.if-not-named.true) (within_room _ _ _ _ _ (child_signal c.requires.1 (kind_is 5 c.in-5.is)) c.start.ensures)
+    (sym c.named.ensures ∙ c.if-not-named.true) (within_room _ _ _ _ _ (child_signal c.requires.1 (kind_is 5 c.in-5.is)) c.start.ensures)
 
 pub shape_of-area-then-not-named : goal.shape_of-area-then-not-named
 shape_of-area-then-not-named t c =
@@ -121,15 +117,14 @@ pub start-n-requires : goal.start-n-requires
 start-n-requires t c =
     let Below : ℕ → Type 0 = λ i. Child c.requires.1.count c.args.nodes.now c.args.at i in
     let falls_to : (i : ℕ) → Below i → depth (part_at c.args.nodes.now i) < t = λ i k. omega (arith, c.decreases, k.less) in
-    let kind_is : (n : ℕ) → c.kind_of.result ≡ n → kind_of_node (get_or c.args.nodes.now c.args.at 0) ≡ n = λ n e. sym c.kind_of.ensures ∙ e in
-    (
-        falls_to _ (child_signal c.requires.1 (kind_is 5 c.in-5.is)),
-        (
-          c.requires.0,
-          ready_at c.requires.1 (child_signal c.requires.1 (kind_is 5 c.in-5.is)),
-          slotted_more c.operand_of-operand.result c.requires.2 (sym c.contains.ensures ∙ c.if-contains.true) c.with-more.ensures,
-        ),
-      )
+    let kind_is : (n : ℕ) → c.kind_of.result ≡ n → kind_of_node (get_or c.args.nodes.now c.args.at 0) ≡ n = λ n e. sym c.kind_of.ensures ∙ e in (
+      falls_to _ (child_signal c.requires.1 (kind_is 5 c.in-5.is)),
+      (
+        c.requires.0,
+        ready_at c.requires.1 (child_signal c.requires.1 (kind_is 5 c.in-5.is)),
+        slotted_more c.operand_of-operand.result c.requires.2 (sym c.contains.ensures ∙ c.if-contains.true) c.with-more.ensures,
+      ),
+    )
 
 pub slot_of-slot-requires : goal.slot_of-slot-requires
 slot_of-slot-requires t c =
@@ -146,12 +141,12 @@ returns-then-m-ne-OVER t c =
     let less_room : (i : ℕ) → Below i → c.args.base + 128 + room_for (part_at c.args.nodes.now i) ≤ (c.args.base + room_for (part_at c.args.nodes.now c.args.at)) = λ i k. omega (arith, k.less) in
     let within_room : (i : ℕ) (a b : List ℕ) (n : ℕ) (v : CappedRows) → Below i → Made a b c.args.base (c.args.base + room_for (part_at c.args.nodes.now i)) v n → Made a b c.args.base (c.args.base + room_for (part_at c.args.nodes.now c.args.at)) v n = λ i a b n v k m. made_need (c.args.base + room_for (part_at c.args.nodes.now c.args.at)) m (let h = less_room _ k in omega arith) in
     let changed_child : (i : ℕ) (a b c₂ : List ℕ) (n r : ℕ) (v : CappedRows) → (f : Change) → Below i → Made a b c.args.base (c.args.base + room_for (part_at c.args.nodes.now i)) v n
-      → Altered f b c₂ c.args.base n r → Made a c₂ c.args.base (c.args.base + room_for (part_at c.args.nodes.now c.args.at)) (change_rows (change f) v) r = λ i a b c₂ n r v f k m x. altered f (within_room _ _ _ _ _ k m) x in
+    → Altered f b c₂ c.args.base n r → Made a c₂ c.args.base (c.args.base + room_for (part_at c.args.nodes.now c.args.at)) (change_rows (change f) v) r = λ i a b c₂ n r v f k m x. altered f (within_room _ _ _ _ _ k m) x in
     let kind_is : (n : ℕ) → c.kind_of.result ≡ n → kind_of_node (get_or c.args.nodes.now c.args.at 0) ≡ n = λ n e. sym c.kind_of.ensures ∙ e in
     let is_named : names c.operand_of-operand.result (part_at c.args.nodes.now (c.args.at + 1)) ≡ true = sym c.named.ensures ∙ c.if-not-named.false in
     signal_tried c.requires.1 (kind_is 5 c.in-5.is) c.operand_of-operand.result c.operand_of-operand.ensures c.args.slotted started c.args.assumed c.args.unknown
-      (sym c.contains.ensures ∙ c.if-contains.true) c.slot_of-slot.result c.with-more.result c.slot_of-slot.ensures c.with-more.ensures
-      (changed_child _ _ _ _ _ _ _ (Local c.operand_of-operand.result c.slot_of-slot.result) (child_signal c.requires.1 (kind_is 5 c.in-5.is)) c.start-n.ensures c.hide_unknown-m.ensures) is_named c.if-m-ne-OVER.true
+    (sym c.contains.ensures ∙ c.if-contains.true) c.slot_of-slot.result c.with-more.result c.slot_of-slot.ensures c.with-more.ensures
+    (changed_child _ _ _ _ _ _ _ (Local c.operand_of-operand.result c.slot_of-slot.result) (child_signal c.requires.1 (kind_is 5 c.in-5.is)) c.start-n.ensures c.hide_unknown-m.ensures) is_named c.if-m-ne-OVER.true
 
 pub shape_of-area-then-m-ne-OVER : goal.shape_of-area-then-m-ne-OVER
 shape_of-area-then-m-ne-OVER t c =
@@ -163,19 +158,19 @@ returns-then-unknown-ne0 t c =
     let less_room : (i : ℕ) → Below i → c.args.base + 128 + room_for (part_at c.args.nodes.now i) ≤ (c.args.base + room_for (part_at c.args.nodes.now c.args.at)) = λ i k. omega (arith, k.less) in
     let within_room : (i : ℕ) (a b : List ℕ) (n : ℕ) (v : CappedRows) → Below i → Made a b c.args.base (c.args.base + room_for (part_at c.args.nodes.now i)) v n → Made a b c.args.base (c.args.base + room_for (part_at c.args.nodes.now c.args.at)) v n = λ i a b n v k m. made_need (c.args.base + room_for (part_at c.args.nodes.now c.args.at)) m (let h = less_room _ k in omega arith) in
     let changed_child : (i : ℕ) (a b c₂ : List ℕ) (n r : ℕ) (v : CappedRows) → (f : Change) → Below i → Made a b c.args.base (c.args.base + room_for (part_at c.args.nodes.now i)) v n
-      → Altered f b c₂ c.args.base n r → Made a c₂ c.args.base (c.args.base + room_for (part_at c.args.nodes.now c.args.at)) (change_rows (change f) v) r = λ i a b c₂ n r v f k m x. altered f (within_room _ _ _ _ _ k m) x in
+    → Altered f b c₂ c.args.base n r → Made a c₂ c.args.base (c.args.base + room_for (part_at c.args.nodes.now c.args.at)) (change_rows (change f) v) r = λ i a b c₂ n r v f k m x. altered f (within_room _ _ _ _ _ k m) x in
     let kind_is : (n : ℕ) → c.kind_of.result ≡ n → kind_of_node (get_or c.args.nodes.now c.args.at 0) ≡ n = λ n e. sym c.kind_of.ensures ∙ e in
     let is_named : names c.operand_of-operand.result (part_at c.args.nodes.now (c.args.at + 1)) ≡ true = sym c.named.ensures ∙ c.if-not-named.false in
     let gave : GaveUp c.args.area.now c.if-contains.area c.args.base (attempted c.args.slotted c.operand_of-operand.result (part_at c.args.nodes.now (c.args.at + 1)) started c.args.assumed c.args.unknown) = let up : List ℕ → Type 0 = λ z. GaveUp c.args.area.now z c.args.base (attempted c.args.slotted c.operand_of-operand.result (part_at c.args.nodes.now (c.args.at + 1)) started c.args.assumed c.args.unknown) in
-      let key = (kind_is 5 c.in-5.is) in
-      elim c.if-contains.branch [
-      then-contains+else-m-ne-OVER w ↦
-      subst up (sym w.area-is) (gave_up c.requires.1 key c.operand_of-operand.result c.operand_of-operand.ensures c.args.slotted started c.args.assumed c.args.unknown (sym c.contains.ensures ∙ w.if-contains.true)
-      w.slot_of-slot.result w.with-more.result w.slot_of-slot.ensures w.with-more.ensures (changed_child _ _ _ _ _ _ _ (Local c.operand_of-operand.result w.slot_of-slot.result) (child_signal c.requires.1 (kind_is 5 c.in-5.is)) w.start-n.ensures w.hide_unknown-m.ensures) w.if-m-ne-OVER.false)
+    let key = (kind_is 5 c.in-5.is) in
+    elim c.if-contains.branch [
+      | then-contains+else-m-ne-OVER w ↦
+          subst up (sym w.area-is) (gave_up c.requires.1 key c.operand_of-operand.result c.operand_of-operand.ensures c.args.slotted started c.args.assumed c.args.unknown (sym c.contains.ensures ∙ w.if-contains.true)
+          w.slot_of-slot.result w.with-more.result w.slot_of-slot.ensures w.with-more.ensures (changed_child _ _ _ _ _ _ _ (Local c.operand_of-operand.result w.slot_of-slot.result) (child_signal c.requires.1 (kind_is 5 c.in-5.is)) w.start-n.ensures w.hide_unknown-m.ensures) w.if-m-ne-OVER.false)
       | else-contains w ↦ subst up (sym w.area-is) (not_tried c.requires.1 key c.operand_of-operand.result c.operand_of-operand.ensures c.args.slotted started c.args.assumed c.args.unknown c.args.area.now c.args.base (sym c.contains.ensures ∙ w.if-contains.false))
-      ] in
+    ] in
     signal_passed c.requires.1 (kind_is 5 c.in-5.is) c.operand_of-operand.result c.operand_of-operand.ensures c.args.slotted started c.args.assumed c.args.unknown
-      is_named gave (c.args.base + room_for (part_at c.args.nodes.now c.args.at)) c.if-unknown-ne0.true (start_given_up (part_at c.args.nodes.now (c.args.at + 1)))
+    is_named gave (c.args.base + room_for (part_at c.args.nodes.now c.args.at)) c.if-unknown-ne0.true (start_given_up (part_at c.args.nodes.now (c.args.at + 1)))
 
 pub shape_of-area-then-unknown-ne0 : goal.shape_of-area-then-unknown-ne0
 shape_of-area-then-unknown-ne0 t c =
@@ -193,16 +188,16 @@ start-n-requires-in-5 t c =
     let less_room : (i : ℕ) → Below i → c.args.base + 128 + room_for (part_at c.args.nodes.now i) ≤ (c.args.base + room_for (part_at c.args.nodes.now c.args.at)) = λ i k. omega (arith, k.less) in
     let within_room : (i : ℕ) (a b : List ℕ) (n : ℕ) (v : CappedRows) → Below i → Made a b c.args.base (c.args.base + room_for (part_at c.args.nodes.now i)) v n → Made a b c.args.base (c.args.base + room_for (part_at c.args.nodes.now c.args.at)) v n = λ i a b n v k m. made_need (c.args.base + room_for (part_at c.args.nodes.now c.args.at)) m (let h = less_room _ k in omega arith) in
     let changed_child : (i : ℕ) (a b c₂ : List ℕ) (n r : ℕ) (v : CappedRows) → (f : Change) → Below i → Made a b c.args.base (c.args.base + room_for (part_at c.args.nodes.now i)) v n
-      → Altered f b c₂ c.args.base n r → Made a c₂ c.args.base (c.args.base + room_for (part_at c.args.nodes.now c.args.at)) (change_rows (change f) v) r = λ i a b c₂ n r v f k m x. altered f (within_room _ _ _ _ _ k m) x in
+    → Altered f b c₂ c.args.base n r → Made a c₂ c.args.base (c.args.base + room_for (part_at c.args.nodes.now c.args.at)) (change_rows (change f) v) r = λ i a b c₂ n r v f k m x. altered f (within_room _ _ _ _ _ k m) x in
     let kind_is : (n : ℕ) → c.kind_of.result ≡ n → kind_of_node (get_or c.args.nodes.now c.args.at 0) ≡ n = λ n e. sym c.kind_of.ensures ∙ e in
     let gave : GaveUp c.args.area.now c.if-contains.area c.args.base (attempted c.args.slotted c.operand_of-operand.result (part_at c.args.nodes.now (c.args.at + 1)) started c.args.assumed c.args.unknown) = let up : List ℕ → Type 0 = λ z. GaveUp c.args.area.now z c.args.base (attempted c.args.slotted c.operand_of-operand.result (part_at c.args.nodes.now (c.args.at + 1)) started c.args.assumed c.args.unknown) in
-      let key = (kind_is 5 c.in-5.is) in
-      elim c.if-contains.branch [
-      then-contains+else-m-ne-OVER w ↦
-      subst up (sym w.area-is) (gave_up c.requires.1 key c.operand_of-operand.result c.operand_of-operand.ensures c.args.slotted started c.args.assumed c.args.unknown (sym c.contains.ensures ∙ w.if-contains.true)
-      w.slot_of-slot.result w.with-more.result w.slot_of-slot.ensures w.with-more.ensures (changed_child _ _ _ _ _ _ _ (Local c.operand_of-operand.result w.slot_of-slot.result) (child_signal c.requires.1 (kind_is 5 c.in-5.is)) w.start-n.ensures w.hide_unknown-m.ensures) w.if-m-ne-OVER.false)
+    let key = (kind_is 5 c.in-5.is) in
+    elim c.if-contains.branch [
+      | then-contains+else-m-ne-OVER w ↦
+          subst up (sym w.area-is) (gave_up c.requires.1 key c.operand_of-operand.result c.operand_of-operand.ensures c.args.slotted started c.args.assumed c.args.unknown (sym c.contains.ensures ∙ w.if-contains.true)
+          w.slot_of-slot.result w.with-more.result w.slot_of-slot.ensures w.with-more.ensures (changed_child _ _ _ _ _ _ _ (Local c.operand_of-operand.result w.slot_of-slot.result) (child_signal c.requires.1 (kind_is 5 c.in-5.is)) w.start-n.ensures w.hide_unknown-m.ensures) w.if-m-ne-OVER.false)
       | else-contains w ↦ subst up (sym w.area-is) (not_tried c.requires.1 key c.operand_of-operand.result c.operand_of-operand.ensures c.args.slotted started c.args.assumed c.args.unknown c.args.area.now c.args.base (sym c.contains.ensures ∙ w.if-contains.false))
-      ] in
+    ] in
     let still_short : c.args.base ≤ length c.if-contains.area = omega (arith, c.requires.0, gave.same) in
     (falls_to _ (child_signal c.requires.1 (kind_is 5 c.in-5.is)), (still_short, ready_at c.requires.1 (child_signal c.requires.1 (kind_is 5 c.in-5.is)), slotted_none c.requires.2))
 
@@ -216,19 +211,19 @@ above-top-requires t c =
     let less_room : (i : ℕ) → Below i → c.args.base + 128 + room_for (part_at c.args.nodes.now i) ≤ (c.args.base + room_for (part_at c.args.nodes.now c.args.at)) = λ i k. omega (arith, k.less) in
     let within_room : (i : ℕ) (a b : List ℕ) (n : ℕ) (v : CappedRows) → Below i → Made a b c.args.base (c.args.base + room_for (part_at c.args.nodes.now i)) v n → Made a b c.args.base (c.args.base + room_for (part_at c.args.nodes.now c.args.at)) v n = λ i a b n v k m. made_need (c.args.base + room_for (part_at c.args.nodes.now c.args.at)) m (let h = less_room _ k in omega arith) in
     let changed_child : (i : ℕ) (a b c₂ : List ℕ) (n r : ℕ) (v : CappedRows) → (f : Change) → Below i → Made a b c.args.base (c.args.base + room_for (part_at c.args.nodes.now i)) v n
-      → Altered f b c₂ c.args.base n r → Made a c₂ c.args.base (c.args.base + room_for (part_at c.args.nodes.now c.args.at)) (change_rows (change f) v) r = λ i a b c₂ n r v f k m x. altered f (within_room _ _ _ _ _ k m) x in
+    → Altered f b c₂ c.args.base n r → Made a c₂ c.args.base (c.args.base + room_for (part_at c.args.nodes.now c.args.at)) (change_rows (change f) v) r = λ i a b c₂ n r v f k m x. altered f (within_room _ _ _ _ _ k m) x in
     let kind_is : (n : ℕ) → c.kind_of.result ≡ n → kind_of_node (get_or c.args.nodes.now c.args.at 0) ≡ n = λ n e. sym c.kind_of.ensures ∙ e in
     let gave : GaveUp c.args.area.now c.if-contains.area c.args.base (attempted c.args.slotted c.operand_of-operand.result (part_at c.args.nodes.now (c.args.at + 1)) started c.args.assumed c.args.unknown) = let up : List ℕ → Type 0 = λ z. GaveUp c.args.area.now z c.args.base (attempted c.args.slotted c.operand_of-operand.result (part_at c.args.nodes.now (c.args.at + 1)) started c.args.assumed c.args.unknown) in
-      let key = (kind_is 5 c.in-5.is) in
-      elim c.if-contains.branch [
-      then-contains+else-m-ne-OVER w ↦
-      subst up (sym w.area-is) (gave_up c.requires.1 key c.operand_of-operand.result c.operand_of-operand.ensures c.args.slotted started c.args.assumed c.args.unknown (sym c.contains.ensures ∙ w.if-contains.true)
-      w.slot_of-slot.result w.with-more.result w.slot_of-slot.ensures w.with-more.ensures (changed_child _ _ _ _ _ _ _ (Local c.operand_of-operand.result w.slot_of-slot.result) (child_signal c.requires.1 (kind_is 5 c.in-5.is)) w.start-n.ensures w.hide_unknown-m.ensures) w.if-m-ne-OVER.false)
+    let key = (kind_is 5 c.in-5.is) in
+    elim c.if-contains.branch [
+      | then-contains+else-m-ne-OVER w ↦
+          subst up (sym w.area-is) (gave_up c.requires.1 key c.operand_of-operand.result c.operand_of-operand.ensures c.args.slotted started c.args.assumed c.args.unknown (sym c.contains.ensures ∙ w.if-contains.true)
+          w.slot_of-slot.result w.with-more.result w.slot_of-slot.ensures w.with-more.ensures (changed_child _ _ _ _ _ _ _ (Local c.operand_of-operand.result w.slot_of-slot.result) (child_signal c.requires.1 (kind_is 5 c.in-5.is)) w.start-n.ensures w.hide_unknown-m.ensures) w.if-m-ne-OVER.false)
       | else-contains w ↦ subst up (sym w.area-is) (not_tried c.requires.1 key c.operand_of-operand.result c.operand_of-operand.ensures c.args.slotted started c.args.assumed c.args.unknown c.args.area.now c.args.base (sym c.contains.ensures ∙ w.if-contains.false))
-      ] in
+    ] in
     let still_short : c.args.base ≤ length c.if-contains.area = omega (arith, c.requires.0, gave.same) in
     let m = changed_child _ _ _ _ _ _ _ (Hide c.operand_of-operand.result) (child_signal c.requires.1 (kind_is 5 c.in-5.is)) c.start-n-in-5.ensures c.hide_signal-n1.ensures in
-      (omega (arith, still_short, m.same), λ h. omega (arith, m.fits h, m.same))
+    (omega (arith, still_short, m.same), λ h. omega (arith, m.fits h, m.same))
 
 pub without-without-requires : goal.without-without-requires
 without-without-requires t c =
@@ -248,11 +243,11 @@ either-requires t c =
     let wide : (i : ℕ) → Below i → c.args.base + 386 ≤ (c.args.base + room_for (part_at c.args.nodes.now c.args.at)) = λ i k. omega (arith, k.less, depth_positive (part_at c.args.nodes.now i)) in
     let within_room : (i : ℕ) (a b : List ℕ) (n : ℕ) (v : CappedRows) → Below i → Made a b c.args.base (c.args.base + room_for (part_at c.args.nodes.now i)) v n → Made a b c.args.base (c.args.base + room_for (part_at c.args.nodes.now c.args.at)) v n = λ i a b n v k m. made_need (c.args.base + room_for (part_at c.args.nodes.now c.args.at)) m (let h = less_room _ k in omega arith) in
     let changed_child : (i : ℕ) (a b c₂ : List ℕ) (n r : ℕ) (v : CappedRows) → (f : Change) → Below i → Made a b c.args.base (c.args.base + room_for (part_at c.args.nodes.now i)) v n
-      → Altered f b c₂ c.args.base n r → Made a c₂ c.args.base (c.args.base + room_for (part_at c.args.nodes.now c.args.at)) (change_rows (change f) v) r = λ i a b c₂ n r v f k m x. altered f (within_room _ _ _ _ _ k m) x in
+    → Altered f b c₂ c.args.base n r → Made a c₂ c.args.base (c.args.base + room_for (part_at c.args.nodes.now c.args.at)) (change_rows (change f) v) r = λ i a b c₂ n r v f k m x. altered f (within_room _ _ _ _ _ k m) x in
     let kind_is : (n : ℕ) → c.kind_of.result ≡ n → kind_of_node (get_or c.args.nodes.now c.args.at 0) ≡ n = λ n e. sym c.kind_of.ensures ∙ e in
     let b = (child_signal c.requires.1 (kind_is 5 c.in-5.is)) in
-      let m = changed_child _ _ _ _ _ _ _ (Hide c.operand_of-operand.result) b c.start-n-in-5.ensures c.hide_signal-n1.ensures in
-      beside_top m c.above-top.ensures (wide _ b) c.start-n2.ensures (λ h e. let z = less_room _ b in omega arith)
+    let m = changed_child _ _ _ _ _ _ _ (Hide c.operand_of-operand.result) b c.start-n-in-5.ensures c.hide_signal-n1.ensures in
+    beside_top m c.above-top.ensures (wide _ b) c.start-n2.ensures (λ h e. let z = less_room _ b in omega arith)
 
 pub offset_bounds-ends-first : goal.offset_bounds-ends-first
 offset_bounds-ends-first t c =
@@ -301,10 +296,10 @@ above-top-requires-then-contains-2 t c =
     let less_room : (i : ℕ) → Below i → c.args.base + 128 + room_for (part_at c.args.nodes.now i) ≤ (c.args.base + room_for (part_at c.args.nodes.now c.args.at)) = λ i k. omega (arith, k.less) in
     let within_room : (i : ℕ) (a b : List ℕ) (n : ℕ) (v : CappedRows) → Below i → Made a b c.args.base (c.args.base + room_for (part_at c.args.nodes.now i)) v n → Made a b c.args.base (c.args.base + room_for (part_at c.args.nodes.now c.args.at)) v n = λ i a b n v k m. made_need (c.args.base + room_for (part_at c.args.nodes.now c.args.at)) m (let h = less_room _ k in omega arith) in
     let changed_child : (i : ℕ) (a b c₂ : List ℕ) (n r : ℕ) (v : CappedRows) → (f : Change) → Below i → Made a b c.args.base (c.args.base + room_for (part_at c.args.nodes.now i)) v n
-      → Altered f b c₂ c.args.base n r → Made a c₂ c.args.base (c.args.base + room_for (part_at c.args.nodes.now c.args.at)) (change_rows (change f) v) r = λ i a b c₂ n r v f k m x. altered f (within_room _ _ _ _ _ k m) x in
+    → Altered f b c₂ c.args.base n r → Made a c₂ c.args.base (c.args.base + room_for (part_at c.args.nodes.now c.args.at)) (change_rows (change f) v) r = λ i a b c₂ n r v f k m x. altered f (within_room _ _ _ _ _ k m) x in
     let kind_is : (n : ℕ) → c.kind_of.result ≡ n → kind_of_node (get_or c.args.nodes.now c.args.at 0) ≡ n = λ n e. sym c.kind_of.ensures ∙ e in
     let m = changed_child _ _ _ _ _ _ _ (Given c.on_slot.result) (child_present c.requires.1 (kind_is 6 c.in-6.is)) c.start-n-then-contains-2.ensures c.add_condition-n1.ensures in
-      (omega (arith, c.requires.0, m.same), λ h. omega (arith, m.fits h, m.same))
+    (omega (arith, c.requires.0, m.same), λ h. omega (arith, m.fits h, m.same))
 
 pub start-m-requires : goal.start-m-requires
 start-m-requires t c =
@@ -330,10 +325,10 @@ either-requires-then-contains-2 t c =
     let wide : (i : ℕ) → Below i → c.args.base + 386 ≤ (c.args.base + room_for (part_at c.args.nodes.now c.args.at)) = λ i k. omega (arith, k.less, depth_positive (part_at c.args.nodes.now i)) in
     let within_room : (i : ℕ) (a b : List ℕ) (n : ℕ) (v : CappedRows) → Below i → Made a b c.args.base (c.args.base + room_for (part_at c.args.nodes.now i)) v n → Made a b c.args.base (c.args.base + room_for (part_at c.args.nodes.now c.args.at)) v n = λ i a b n v k m. made_need (c.args.base + room_for (part_at c.args.nodes.now c.args.at)) m (let h = less_room _ k in omega arith) in
     let changed_child : (i : ℕ) (a b c₂ : List ℕ) (n r : ℕ) (v : CappedRows) → (f : Change) → Below i → Made a b c.args.base (c.args.base + room_for (part_at c.args.nodes.now i)) v n
-      → Altered f b c₂ c.args.base n r → Made a c₂ c.args.base (c.args.base + room_for (part_at c.args.nodes.now c.args.at)) (change_rows (change f) v) r = λ i a b c₂ n r v f k m x. altered f (within_room _ _ _ _ _ k m) x in
+    → Altered f b c₂ c.args.base n r → Made a c₂ c.args.base (c.args.base + room_for (part_at c.args.nodes.now c.args.at)) (change_rows (change f) v) r = λ i a b c₂ n r v f k m x. altered f (within_room _ _ _ _ _ k m) x in
     let kind_is : (n : ℕ) → c.kind_of.result ≡ n → kind_of_node (get_or c.args.nodes.now c.args.at 0) ≡ n = λ n e. sym c.kind_of.ensures ∙ e in
     let m = changed_child _ _ _ _ _ _ _ (Given c.on_slot.result) (child_present c.requires.1 (kind_is 6 c.in-6.is)) c.start-n-then-contains-2.ensures c.add_condition-n1.ensures in
-      beside_top m c.above-top-then-contains-2.ensures (wide _ (child_present c.requires.1 (kind_is 6 c.in-6.is))) (altered (Given c.off_slot.result) c.start-m.ensures c.add_condition-n2.ensures) (λ h e. let z = less_room _ (child_else c.requires.1 (get_or c.args.ends.now (c.args.at + 1) 0) refl (kind_is 6 c.in-6.is)) in omega arith)
+    beside_top m c.above-top-then-contains-2.ensures (wide _ (child_present c.requires.1 (kind_is 6 c.in-6.is))) (altered (Given c.off_slot.result) c.start-m.ensures c.add_condition-n2.ensures) (λ h e. let z = less_room _ (child_else c.requires.1 (get_or c.args.ends.now (c.args.at + 1) 0) refl (kind_is 6 c.in-6.is)) in omega arith)
 
 pub returns-then-contains-2 : goal.returns-then-contains-2
 returns-then-contains-2 t c =
@@ -342,14 +337,14 @@ returns-then-contains-2 t c =
     let wide : (i : ℕ) → Below i → c.args.base + 386 ≤ (c.args.base + room_for (part_at c.args.nodes.now c.args.at)) = λ i k. omega (arith, k.less, depth_positive (part_at c.args.nodes.now i)) in
     let within_room : (i : ℕ) (a b : List ℕ) (n : ℕ) (v : CappedRows) → Below i → Made a b c.args.base (c.args.base + room_for (part_at c.args.nodes.now i)) v n → Made a b c.args.base (c.args.base + room_for (part_at c.args.nodes.now c.args.at)) v n = λ i a b n v k m. made_need (c.args.base + room_for (part_at c.args.nodes.now c.args.at)) m (let h = less_room _ k in omega arith) in
     let changed_child : (i : ℕ) (a b c₂ : List ℕ) (n r : ℕ) (v : CappedRows) → (f : Change) → Below i → Made a b c.args.base (c.args.base + room_for (part_at c.args.nodes.now i)) v n
-      → Altered f b c₂ c.args.base n r → Made a c₂ c.args.base (c.args.base + room_for (part_at c.args.nodes.now c.args.at)) (change_rows (change f) v) r = λ i a b c₂ n r v f k m x. altered f (within_room _ _ _ _ _ k m) x in
+    → Altered f b c₂ c.args.base n r → Made a c₂ c.args.base (c.args.base + room_for (part_at c.args.nodes.now c.args.at)) (change_rows (change f) v) r = λ i a b c₂ n r v f k m x. altered f (within_room _ _ _ _ _ k m) x in
     let kind_is : (n : ℕ) → c.kind_of.result ≡ n → kind_of_node (get_or c.args.nodes.now c.args.at 0) ≡ n = λ n e. sym c.kind_of.ensures ∙ e in
     let is_unknown : has c.args.unknown c.operand_of-operand.result ≡ true = sym c.contains-in-6.ensures ∙ c.if-contains-2.true in
     let m = changed_child _ _ _ _ _ _ _ (Given c.on_slot.result) (child_present c.requires.1 (kind_is 6 c.in-6.is)) c.start-n-then-contains-2.ensures c.add_condition-n1.ensures in
-      list_tested c.requires.1 c.args.slotted c.args.assumed c.args.unknown (get_or c.args.ends.now (c.args.at + 1) 0) refl (kind_is 6 c.in-6.is) c.operand_of-operand.result c.operand_of-operand.ensures is_unknown
-      c.slot_of-slot-then-contains-2.result c.on_slot.result c.off_slot.result c.slot_of-slot-then-contains-2.ensures c.on_slot.ensures.1 c.off_slot.ensures
-      (joined m c.above-top-then-contains-2.ensures (wide _ (child_present c.requires.1 (kind_is 6 c.in-6.is))) ◌++◌ (altered (Given c.off_slot.result) c.start-m.ensures c.add_condition-n2.ensures) (λ h e. let z = less_room _ (child_else c.requires.1 (get_or c.args.ends.now (c.args.at + 1) 0) refl (kind_is 6 c.in-6.is)) in omega arith)
-      c.requires.0 c.either-then-contains-2.ensures)
+    list_tested c.requires.1 c.args.slotted c.args.assumed c.args.unknown (get_or c.args.ends.now (c.args.at + 1) 0) refl (kind_is 6 c.in-6.is) c.operand_of-operand.result c.operand_of-operand.ensures is_unknown
+    c.slot_of-slot-then-contains-2.result c.on_slot.result c.off_slot.result c.slot_of-slot-then-contains-2.ensures c.on_slot.ensures.1 c.off_slot.ensures
+    (joined m c.above-top-then-contains-2.ensures (wide _ (child_present c.requires.1 (kind_is 6 c.in-6.is))) ◌++◌ (altered (Given c.off_slot.result) c.start-m.ensures c.add_condition-n2.ensures) (λ h e. let z = less_room _ (child_else c.requires.1 (get_or c.args.ends.now (c.args.at + 1) 0) refl (kind_is 6 c.in-6.is)) in omega arith)
+    c.requires.0 c.either-then-contains-2.ensures)
 
 pub shape_of-area-then-contains-2 : goal.shape_of-area-then-contains-2
 shape_of-area-then-contains-2 t c =
@@ -373,7 +368,7 @@ returns-then-contains-3 t c =
     let within_room : (i : ℕ) (a b : List ℕ) (n : ℕ) (v : CappedRows) → Below i → Made a b c.args.base (c.args.base + room_for (part_at c.args.nodes.now i)) v n → Made a b c.args.base (c.args.base + room_for (part_at c.args.nodes.now c.args.at)) v n = λ i a b n v k m. made_need (c.args.base + room_for (part_at c.args.nodes.now c.args.at)) m (let h = less_room _ k in omega arith) in
     let kind_is : (n : ℕ) → c.kind_of.result ≡ n → kind_of_node (get_or c.args.nodes.now c.args.at 0) ≡ n = λ n e. sym c.kind_of.ensures ∙ e in
     list_then c.requires.1 c.args.slotted c.args.assumed c.args.unknown (get_or c.args.ends.now (c.args.at + 1) 0) refl (kind_is 6 c.in-6.is) c.operand_of-operand.result c.operand_of-operand.ensures
-      (sym c.contains-in-6.ensures ∙ c.if-contains-2.false) (sym c.contains-in-6-2.ensures ∙ c.if-contains-3.true) (within_room _ _ _ _ _ (child_present c.requires.1 (kind_is 6 c.in-6.is)) c.start-then-contains-3.ensures)
+    (sym c.contains-in-6.ensures ∙ c.if-contains-2.false) (sym c.contains-in-6-2.ensures ∙ c.if-contains-3.true) (within_room _ _ _ _ _ (child_present c.requires.1 (kind_is 6 c.in-6.is)) c.start-then-contains-3.ensures)
 
 pub shape_of-area-then-contains-3 : goal.shape_of-area-then-contains-3
 shape_of-area-then-contains-3 t c =
@@ -404,7 +399,7 @@ returns-then-not-some_ends t c =
     let within_room : (i : ℕ) (a b : List ℕ) (n : ℕ) (v : CappedRows) → Below i → Made a b c.args.base (c.args.base + room_for (part_at c.args.nodes.now i)) v n → Made a b c.args.base (c.args.base + room_for (part_at c.args.nodes.now c.args.at)) v n = λ i a b n v k m. made_need (c.args.base + room_for (part_at c.args.nodes.now c.args.at)) m (let h = less_room _ k in omega arith) in
     let kind_is : (n : ℕ) → c.kind_of.result ≡ n → kind_of_node (get_or c.args.nodes.now c.args.at 0) ≡ n = λ n e. sym c.kind_of.ensures ∙ e in
     list_sequence c.requires.1 c.args.slotted c.args.assumed c.args.unknown (get_or c.args.ends.now (c.args.at + 1) 0) refl (kind_is 7 c.in-7.is)
-      (followed_not (within_room _ _ _ _ _ (child_sequence c.requires.1 (kind_is 7 c.in-7.is)) c.start-n1.ensures) _ c.some_ends.ensures c.if-not-some_ends.true)
+    (followed_not (within_room _ _ _ _ _ (child_sequence c.requires.1 (kind_is 7 c.in-7.is)) c.start-n1.ensures) _ c.some_ends.ensures c.if-not-some_ends.true)
 
 pub shape_of-area-then-not-some_ends : goal.shape_of-area-then-not-some_ends
 shape_of-area-then-not-some_ends t c =
@@ -436,7 +431,7 @@ overflow_add-top t c =
     let some_end : c.some_ends.result ≡ true = c.if-not-some_ends.false in
     let few : c.start-n1.result ≤ 64 = ending_small c.some_ends.ensures.1 some_end in
     let h = few in
-      omega (arith, h, c.start-n1.ensures.fits h)
+    omega (arith, h, c.start-n1.ensures.fits h)
 
 pub start-n2-requires-in-7 : goal.start-n2-requires-in-7
 start-n2-requires-in-7 t c =
@@ -573,23 +568,23 @@ returns-else-unknown-ne0 t c =
     let wide : (i : ℕ) → Below i → c.args.base + 386 ≤ (c.args.base + room_for (part_at c.args.nodes.now c.args.at)) = λ i k. omega (arith, k.less, depth_positive (part_at c.args.nodes.now i)) in
     let within_room : (i : ℕ) (a b : List ℕ) (n : ℕ) (v : CappedRows) → Below i → Made a b c.args.base (c.args.base + room_for (part_at c.args.nodes.now i)) v n → Made a b c.args.base (c.args.base + room_for (part_at c.args.nodes.now c.args.at)) v n = λ i a b n v k m. made_need (c.args.base + room_for (part_at c.args.nodes.now c.args.at)) m (let h = less_room _ k in omega arith) in
     let changed_child : (i : ℕ) (a b c₂ : List ℕ) (n r : ℕ) (v : CappedRows) → (f : Change) → Below i → Made a b c.args.base (c.args.base + room_for (part_at c.args.nodes.now i)) v n
-      → Altered f b c₂ c.args.base n r → Made a c₂ c.args.base (c.args.base + room_for (part_at c.args.nodes.now c.args.at)) (change_rows (change f) v) r = λ i a b c₂ n r v f k m x. altered f (within_room _ _ _ _ _ k m) x in
+    → Altered f b c₂ c.args.base n r → Made a c₂ c.args.base (c.args.base + room_for (part_at c.args.nodes.now c.args.at)) (change_rows (change f) v) r = λ i a b c₂ n r v f k m x. altered f (within_room _ _ _ _ _ k m) x in
     let kind_is : (n : ℕ) → c.kind_of.result ≡ n → kind_of_node (get_or c.args.nodes.now c.args.at 0) ≡ n = λ n e. sym c.kind_of.ensures ∙ e in
     let is_named : names c.operand_of-operand.result (part_at c.args.nodes.now (c.args.at + 1)) ≡ true = sym c.named.ensures ∙ c.if-not-named.false in
     let gave : GaveUp c.args.area.now c.if-contains.area c.args.base (attempted c.args.slotted c.operand_of-operand.result (part_at c.args.nodes.now (c.args.at + 1)) started c.args.assumed c.args.unknown) = let up : List ℕ → Type 0 = λ z. GaveUp c.args.area.now z c.args.base (attempted c.args.slotted c.operand_of-operand.result (part_at c.args.nodes.now (c.args.at + 1)) started c.args.assumed c.args.unknown) in
-      let key = (kind_is 5 c.in-5.is) in
-      elim c.if-contains.branch [
-      then-contains+else-m-ne-OVER w ↦
-      subst up (sym w.area-is) (gave_up c.requires.1 key c.operand_of-operand.result c.operand_of-operand.ensures c.args.slotted started c.args.assumed c.args.unknown (sym c.contains.ensures ∙ w.if-contains.true)
-      w.slot_of-slot.result w.with-more.result w.slot_of-slot.ensures w.with-more.ensures (changed_child _ _ _ _ _ _ _ (Local c.operand_of-operand.result w.slot_of-slot.result) (child_signal c.requires.1 (kind_is 5 c.in-5.is)) w.start-n.ensures w.hide_unknown-m.ensures) w.if-m-ne-OVER.false)
+    let key = (kind_is 5 c.in-5.is) in
+    elim c.if-contains.branch [
+      | then-contains+else-m-ne-OVER w ↦
+          subst up (sym w.area-is) (gave_up c.requires.1 key c.operand_of-operand.result c.operand_of-operand.ensures c.args.slotted started c.args.assumed c.args.unknown (sym c.contains.ensures ∙ w.if-contains.true)
+          w.slot_of-slot.result w.with-more.result w.slot_of-slot.ensures w.with-more.ensures (changed_child _ _ _ _ _ _ _ (Local c.operand_of-operand.result w.slot_of-slot.result) (child_signal c.requires.1 (kind_is 5 c.in-5.is)) w.start-n.ensures w.hide_unknown-m.ensures) w.if-m-ne-OVER.false)
       | else-contains w ↦ subst up (sym w.area-is) (not_tried c.requires.1 key c.operand_of-operand.result c.operand_of-operand.ensures c.args.slotted started c.args.assumed c.args.unknown c.args.area.now c.args.base (sym c.contains.ensures ∙ w.if-contains.false))
-      ] in
+    ] in
     let still_short : c.args.base ≤ length c.if-contains.area = omega (arith, c.requires.0, gave.same) in
     let b = (child_signal c.requires.1 (kind_is 5 c.in-5.is)) in
-      let m = changed_child _ _ _ _ _ _ _ (Hide c.operand_of-operand.result) b c.start-n-in-5.ensures c.hide_signal-n1.ensures in
-      signal_twice c.requires.1 (kind_is 5 c.in-5.is) c.operand_of-operand.result c.operand_of-operand.ensures c.args.slotted started c.args.assumed c.args.unknown
-      is_named gave c.if-unknown-ne0.false c.with-with.result c.without-without.result c.with-with.ensures c.without-without.ensures
-      (joined m c.above-top.ensures (wide _ b) ◌++◌ c.start-n2.ensures (λ h e. let z = less_room _ b in omega arith) still_short c.either.ensures)
+    let m = changed_child _ _ _ _ _ _ _ (Hide c.operand_of-operand.result) b c.start-n-in-5.ensures c.hide_signal-n1.ensures in
+    signal_twice c.requires.1 (kind_is 5 c.in-5.is) c.operand_of-operand.result c.operand_of-operand.ensures c.args.slotted started c.args.assumed c.args.unknown
+    is_named gave c.if-unknown-ne0.false c.with-with.result c.without-without.result c.with-with.ensures c.without-without.ensures
+    (joined m c.above-top.ensures (wide _ b) ◌++◌ c.start-n2.ensures (λ h e. let z = less_room _ b in omega arith) still_short c.either.ensures)
 
 pub shape_of-area-else-unknown-ne0 : goal.shape_of-area-else-unknown-ne0
 shape_of-area-else-unknown-ne0 t c =
@@ -602,7 +597,7 @@ returns-else-contains-3 t c =
     let within_room : (i : ℕ) (a b : List ℕ) (n : ℕ) (v : CappedRows) → Below i → Made a b c.args.base (c.args.base + room_for (part_at c.args.nodes.now i)) v n → Made a b c.args.base (c.args.base + room_for (part_at c.args.nodes.now c.args.at)) v n = λ i a b n v k m. made_need (c.args.base + room_for (part_at c.args.nodes.now c.args.at)) m (let h = less_room _ k in omega arith) in
     let kind_is : (n : ℕ) → c.kind_of.result ≡ n → kind_of_node (get_or c.args.nodes.now c.args.at 0) ≡ n = λ n e. sym c.kind_of.ensures ∙ e in
     list_else c.requires.1 c.args.slotted c.args.assumed c.args.unknown (get_or c.args.ends.now (c.args.at + 1) 0) refl (kind_is 6 c.in-6.is) c.operand_of-operand.result c.operand_of-operand.ensures
-      (sym c.contains-in-6.ensures ∙ c.if-contains-2.false) (sym c.contains-in-6-2.ensures ∙ c.if-contains-3.false) (within_room _ _ _ _ _ (child_else c.requires.1 (get_or c.args.ends.now (c.args.at + 1) 0) refl (kind_is 6 c.in-6.is)) c.start-in-6.ensures)
+    (sym c.contains-in-6.ensures ∙ c.if-contains-2.false) (sym c.contains-in-6-2.ensures ∙ c.if-contains-3.false) (within_room _ _ _ _ _ (child_else c.requires.1 (get_or c.args.ends.now (c.args.at + 1) 0) refl (kind_is 6 c.in-6.is)) c.start-in-6.ensures)
 
 pub shape_of-area-else-contains-3 : goal.shape_of-area-else-contains-3
 shape_of-area-else-contains-3 t c =
@@ -618,9 +613,9 @@ returns-else-not-some_ends t c =
     let some_end : c.some_ends.result ≡ true = c.if-not-some_ends.false in
     let few : c.start-n1.result ≤ 64 = ending_small c.some_ends.ensures.1 some_end in
     list_sequence c.requires.1 c.args.slotted c.args.assumed c.args.unknown (get_or c.args.ends.now (c.args.at + 1) 0) refl (kind_is 7 c.in-7.is)
-      (followed_by (within_room _ _ _ _ _ (child_sequence c.requires.1 (kind_is 7 c.in-7.is)) c.start-n1.ensures) _ c.some_ends.ensures
-      (capped_clashless c.args.slotted (part_at c.args.nodes.now (c.args.at + 1)) started c.args.assumed c.args.unknown c.requires.2.within) some_end
-      (made_need (c.args.base + room_for (part_at c.args.nodes.now c.args.at)) c.start-n2-in-7.ensures (omega (arith, less_room _ (child_then c.requires.1 (get_or c.args.ends.now (c.args.at + 1) 0) refl (kind_is 7 c.in-7.is)), few))) (wide _ (child_sequence c.requires.1 (kind_is 7 c.in-7.is))) c.product.ensures)
+    (followed_by (within_room _ _ _ _ _ (child_sequence c.requires.1 (kind_is 7 c.in-7.is)) c.start-n1.ensures) _ c.some_ends.ensures
+    (capped_clashless c.args.slotted (part_at c.args.nodes.now (c.args.at + 1)) started c.args.assumed c.args.unknown c.requires.2.within) some_end
+    (made_need (c.args.base + room_for (part_at c.args.nodes.now c.args.at)) c.start-n2-in-7.ensures (omega (arith, less_room _ (child_then c.requires.1 (get_or c.args.ends.now (c.args.at + 1) 0) refl (kind_is 7 c.in-7.is)), few))) (wide _ (child_sequence c.requires.1 (kind_is 7 c.in-7.is))) c.product.ensures)
 
 pub shape_of-area-else-not-some_ends : goal.shape_of-area-else-not-some_ends
 shape_of-area-else-not-some_ends t c =
@@ -634,8 +629,8 @@ returns-in-8 t c =
     let within_room : (i : ℕ) (a b : List ℕ) (n : ℕ) (v : CappedRows) → Below i → Made a b c.args.base (c.args.base + room_for (part_at c.args.nodes.now i)) v n → Made a b c.args.base (c.args.base + room_for (part_at c.args.nodes.now c.args.at)) v n = λ i a b n v k m. made_need (c.args.base + room_for (part_at c.args.nodes.now c.args.at)) m (let h = less_room _ k in omega arith) in
     let kind_is : (n : ℕ) → c.kind_of.result ≡ n → kind_of_node (get_or c.args.nodes.now c.args.at 0) ≡ n = λ n e. sym c.kind_of.ensures ∙ e in
     list_parallel c.requires.1 c.args.slotted c.args.assumed c.args.unknown (get_or c.args.ends.now (c.args.at + 1) 0) refl (kind_is 8 c.in-8.is)
-      (joined (within_room _ _ _ _ _ (child_parallel c.requires.1 (kind_is 8 c.in-8.is)) c.start-n1-in-8.ensures) c.above-top-in-8.ensures (wide _ (child_parallel c.requires.1 (kind_is 8 c.in-8.is))) (product Parallel) c.start-n2-in-8.ensures
-      (λ h e. let z = less_room _ (child_beside c.requires.1 (get_or c.args.ends.now (c.args.at + 1) 0) refl (kind_is 8 c.in-8.is)) in omega arith) c.requires.0 c.together.ensures)
+    (joined (within_room _ _ _ _ _ (child_parallel c.requires.1 (kind_is 8 c.in-8.is)) c.start-n1-in-8.ensures) c.above-top-in-8.ensures (wide _ (child_parallel c.requires.1 (kind_is 8 c.in-8.is))) (product Parallel) c.start-n2-in-8.ensures
+    (λ h e. let z = less_room _ (child_beside c.requires.1 (get_or c.args.ends.now (c.args.at + 1) 0) refl (kind_is 8 c.in-8.is)) in omega arith) c.requires.0 c.together.ensures)
 
 pub shape_of-area-in-8 : goal.shape_of-area-in-8
 shape_of-area-in-8 t c =
@@ -647,7 +642,7 @@ returns-in-9 t c =
     let less_room : (i : ℕ) → Below i → c.args.base + 128 + room_for (part_at c.args.nodes.now i) ≤ (c.args.base + room_for (part_at c.args.nodes.now c.args.at)) = λ i k. omega (arith, k.less) in
     let within_room : (i : ℕ) (a b : List ℕ) (n : ℕ) (v : CappedRows) → Below i → Made a b c.args.base (c.args.base + room_for (part_at c.args.nodes.now i)) v n → Made a b c.args.base (c.args.base + room_for (part_at c.args.nodes.now c.args.at)) v n = λ i a b n v k m. made_need (c.args.base + room_for (part_at c.args.nodes.now c.args.at)) m (let h = less_room _ k in omega arith) in
     let changed_child : (i : ℕ) (a b c₂ : List ℕ) (n r : ℕ) (v : CappedRows) → (f : Change) → Below i → Made a b c.args.base (c.args.base + room_for (part_at c.args.nodes.now i)) v n
-      → Altered f b c₂ c.args.base n r → Made a c₂ c.args.base (c.args.base + room_for (part_at c.args.nodes.now c.args.at)) (change_rows (change f) v) r = λ i a b c₂ n r v f k m x. altered f (within_room _ _ _ _ _ k m) x in
+    → Altered f b c₂ c.args.base n r → Made a c₂ c.args.base (c.args.base + room_for (part_at c.args.nodes.now c.args.at)) (change_rows (change f) v) r = λ i a b c₂ n r v f k m x. altered f (within_room _ _ _ _ _ k m) x in
     let kind_is : (n : ℕ) → c.kind_of.result ≡ n → kind_of_node (get_or c.args.nodes.now c.args.at 0) ≡ n = λ n e. sym c.kind_of.ensures ∙ e in
     list_loop c.requires.1 c.args.slotted c.args.assumed c.args.unknown c.requires.2.within (kind_is 9 c.in-9.is) (changed_child _ _ _ _ _ _ _ Going (child_loop c.requires.1 (kind_is 9 c.in-9.is)) c.start-n-in-9.ensures c.keep_going.ensures)
 
@@ -661,7 +656,7 @@ returns-in-10 t c =
     let less_room : (i : ℕ) → Below i → c.args.base + 128 + room_for (part_at c.args.nodes.now i) ≤ (c.args.base + room_for (part_at c.args.nodes.now c.args.at)) = λ i k. omega (arith, k.less) in
     let within_room : (i : ℕ) (a b : List ℕ) (n : ℕ) (v : CappedRows) → Below i → Made a b c.args.base (c.args.base + room_for (part_at c.args.nodes.now i)) v n → Made a b c.args.base (c.args.base + room_for (part_at c.args.nodes.now c.args.at)) v n = λ i a b n v k m. made_need (c.args.base + room_for (part_at c.args.nodes.now c.args.at)) m (let h = less_room _ k in omega arith) in
     let changed_child : (i : ℕ) (a b c₂ : List ℕ) (n r : ℕ) (v : CappedRows) → (f : Change) → Below i → Made a b c.args.base (c.args.base + room_for (part_at c.args.nodes.now i)) v n
-      → Altered f b c₂ c.args.base n r → Made a c₂ c.args.base (c.args.base + room_for (part_at c.args.nodes.now c.args.at)) (change_rows (change f) v) r = λ i a b c₂ n r v f k m x. altered f (within_room _ _ _ _ _ k m) x in
+    → Altered f b c₂ c.args.base n r → Made a c₂ c.args.base (c.args.base + room_for (part_at c.args.nodes.now c.args.at)) (change_rows (change f) v) r = λ i a b c₂ n r v f k m x. altered f (within_room _ _ _ _ _ k m) x in
     let kind_is : (n : ℕ) → c.kind_of.result ≡ n → kind_of_node (get_or c.args.nodes.now c.args.at 0) ≡ n = λ n e. sym c.kind_of.ensures ∙ e in
     list_try c.requires.1 c.args.slotted c.args.assumed c.args.unknown started c.requires.2.within (kind_is 10 c.in-10.is) (changed_child _ _ _ _ _ _ _ Caught (child_try c.requires.1 (kind_is 10 c.in-10.is)) c.start-n-in-10.ensures c.catch_exits.ensures)
 

@@ -2,7 +2,6 @@
 use native.Mathlib.Omega.{arith}
 use mathlib.Core.Path.{refl}
 use mathlib.Core.Logic.{inl, inr}
-use borrow.Author.Rules.{rules}
 use Rattle.lister.proofs.reacting.above.Goals as goal
 
 pub overflow_mul-result : goal.overflow_mul-result

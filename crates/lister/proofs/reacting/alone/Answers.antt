@@ -9,7 +9,6 @@ use Rattle.esterel.specs.inner.Rows.{Row, row_when}
 use Rattle.area.specs.inner.Layout.{condition_in}
 use Rattle.area.proofs.Rows.{packed_as}
 use Rattle.area.proofs.Made.{made_as, made_need, made_cramped}
-use borrow.Author.Rules.{rules}
 use Rattle.lister.proofs.reacting.alone.Goals as goal
 
 pub returns-then-area-base-lt2 : goal.returns-then-area-base-lt2

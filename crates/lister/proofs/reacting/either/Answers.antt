@@ -1,7 +1,6 @@
 -- Where there is a first list, by the call.
 use native.Mathlib.Omega.{arith}
 use mathlib.Core.Path.{refl}
-use borrow.Author.Rules.{rules}
 use Rattle.lister.proofs.reacting.either.Goals as goal
 
 pub returns-then-n1-gt-MOST : goal.returns-then-n1-gt-MOST

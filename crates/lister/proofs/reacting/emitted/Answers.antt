@@ -2,10 +2,8 @@
 use native.Mathlib.Omega.{arith}
 use mathlib.Core.Path.{sym, ◌∙◌, subst}
 use Prim.Native.Nat.{ℕ, ◌<◌}
-use borrow.Author.Tests.{not-true, not-false}
 use Rattle.lister.proofs.Slots.{slot_few}
 use Rattle.lister.proofs.Starts.{signal_word, emit_none, emit_one, emit_unknown}
-use borrow.Author.Rules.{rules}
 use Rattle.lister.proofs.reacting.emitted.Goals as goal
 
 pub on_slot-requires : goal.on_slot-requires

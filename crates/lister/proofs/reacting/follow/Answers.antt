@@ -2,13 +2,11 @@
 use native.Mathlib.Omega.{arith}
 use Prim.Native.Nat.{◌+◌}
 use mathlib.Core.Path.{refl}
-use borrow.Author.Tests.{not-true, not-false}
 use Rattle.table.proofs.Nodes.{depth_positive}
 use Rattle.area.proofs.Made.{made_need}
 use Rattle.lister.specs.inner.Notes.{part_at}
 use Rattle.lister.specs.inner.Joins.{room_for}
 use Rattle.lister.proofs.Joins.{beside, followed_not, ending_small, followed_by, standing_made, standing_free}
-use borrow.Author.Rules.{rules}
 use Rattle.lister.proofs.reacting.follow.Goals as goal
 
 pub some_ends-requires : goal.some_ends-requires

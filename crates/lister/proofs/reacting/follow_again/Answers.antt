@@ -3,7 +3,6 @@ use native.Mathlib.Omega.{arith}
 use Prim.Native.Nat.{ℕ, ◌+◌, ◌≤◌}
 use mathlib.Core.Path.{refl}
 use mathlib.Core.List.{List}
-use borrow.Author.Tests.{not-true, not-false}
 use Rattle.table.proofs.Nodes.{depth_positive}
 use Rattle.esterel.specs.Statement.{Statement}
 use Rattle.esterel.specs.Reactions.{start as started}
@@ -18,8 +17,6 @@ use Rattle.lister.specs.inner.Slots.{Slotted}
 use Rattle.lister.specs.inner.Joins.{room_for}
 use Rattle.lister.proofs.Clashes.{changed_going}
 use Rattle.lister.proofs.Joins.{altered, beside, followed_not, ending_small, followed_by, standing_made, standing_free}
-use borrow.Author.Rules.{rules}
-
 -- the started body of a loop, without what ends
 use Rattle.lister.proofs.reacting.follow_again.Goals as goal
 

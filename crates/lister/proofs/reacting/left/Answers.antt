@@ -2,7 +2,6 @@
 use native.Mathlib.Omega.{arith}
 use Rattle.esterel.specs.Codes.{code_of}
 use Rattle.lister.proofs.Starts.{exit_one}
-use borrow.Author.Rules.{rules}
 use Rattle.lister.proofs.reacting.left.Goals as goal
 
 pub alone-requires : goal.alone-requires

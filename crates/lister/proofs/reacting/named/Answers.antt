@@ -1,10 +1,7 @@
 -- No node before i names the signal, so the statement names it where one from i on does. The measure is what is left.
-use mathlib.Core.Path.{◌≡◌, sym, ◌∙◌}
-use Prim.Native.Nat.{◌-◌, ◌≤◌}
+use mathlib.Core.Path.{sym, ◌∙◌}
 use native.Mathlib.Omega.{arith}
-use Rattle.esterel.specs.Trimming.{names}
-use Rattle.lister.specs.inner.Notes.{part_at}
-use Rattle.lister.proofs.Naming.{named_in, named_here, end_few, named_next, named_found, named_nowhere}
+use Rattle.lister.proofs.Naming.{named_here, end_few, named_next, named_found, named_nowhere}
 use Rattle.lister.proofs.Starts.{place_few}
 use Rattle.lister.proofs.reacting.named.Goals as goal
 
@@ -28,12 +25,11 @@ returns-then-names c =
     named_found c.args.signal c.args.nodes.now c.loop-i.i _ c.loop-i-test.true (sym c.names.ensures ∙ c.if-names.true) ∙ c.loop-i.invariant.2
 
 pub loop-i-preserved : goal.loop-i-preserved
-loop-i-preserved c =
-    (
-      omega arith,
-      c.loop-i.invariant.1,
-      named_next c.args.signal c.args.nodes.now c.loop-i.i _ c.loop-i-test.true (sym c.names.ensures ∙ c.if-names.false) ∙ c.loop-i.invariant.2,
-    )
+loop-i-preserved c = (
+  omega arith,
+  c.loop-i.invariant.1,
+  named_next c.args.signal c.args.nodes.now c.loop-i.i _ c.loop-i-test.true (sym c.names.ensures ∙ c.if-names.false) ∙ c.loop-i.invariant.2,
+)
 
 pub returns : goal.returns
 returns c =

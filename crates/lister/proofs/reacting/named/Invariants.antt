@@ -1,10 +1,8 @@
-use mathlib.Core.Path.{◌≡◌, sym, ◌∙◌}
+use mathlib.Core.Path.{◌≡◌}
 use Prim.Native.Nat.{◌-◌, ◌≤◌}
-use native.Mathlib.Omega.{arith}
 use Rattle.esterel.specs.Trimming.{names}
 use Rattle.lister.specs.inner.Notes.{part_at}
-use Rattle.lister.proofs.Naming.{named_in, named_here, end_few, named_next, named_found, named_nowhere}
-use Rattle.lister.proofs.Starts.{place_few}
+use Rattle.lister.proofs.Naming.{named_in}
 use Rattle.lister.proofs.reacting.named.Given as goal
 
 abbrev pub invariant-loop-i : goal.invariant-loop-i

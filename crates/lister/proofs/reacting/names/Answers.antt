@@ -1,5 +1,4 @@
 -- By the tests.
-use borrow.Author.Rules.{rules}
 use Rattle.lister.proofs.Naming.{names_other, names_emit, names_present}
 use Rattle.lister.proofs.reacting.names.Goals as goal
 

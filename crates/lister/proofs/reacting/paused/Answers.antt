@@ -1,6 +1,5 @@
 -- The label is one word.
 use Rattle.lister.proofs.Starts.{pause_one}
-use borrow.Author.Rules.{rules}
 use Rattle.lister.proofs.reacting.paused.Goals as goal
 
 pub returns : goal.returns

@@ -2,7 +2,6 @@
 use native.Mathlib.Omega.{arith}
 use Prim.Native.Nat.{◌-◌}
 use Rattle.lister.proofs.Slots.{slot_count, own_there, slot_short}
-use borrow.Author.Rules.{rules}
 use Rattle.lister.proofs.reacting.slot_of.Goals as goal
 
 pub overflow_sub-below : goal.overflow_sub-below

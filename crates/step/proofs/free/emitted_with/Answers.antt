@@ -1,10 +1,8 @@
 -- The invariant: what was met of each signal in the nodes so far. The measure is the nodes that are left.
 use mathlib.Core.Path.{sym, ◌∙◌}
-use Prim.Native.Nat.{◌-◌, ◌≤◌}
 use native.Mathlib.Omega.{arith}
 use Rattle.lister.proofs.Starts.{place_few}
-use Rattle.step.proofs.Scanning.{Tracked, first_few, tracked_none, tracked_hidden, tracked_plain, tracked_emit, tracked_signal, tracked_all}
-use borrow.Author.Rules.{rules}
+use Rattle.step.proofs.Scanning.{first_few, tracked_none, tracked_hidden, tracked_plain, tracked_emit, tracked_signal, tracked_all}
 use Rattle.step.proofs.free.emitted_with.Goals as goal
 
 pub bounds-ends-0 : goal.bounds-ends-0

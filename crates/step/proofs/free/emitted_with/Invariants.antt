@@ -1,9 +1,5 @@
-use mathlib.Core.Path.{sym, ◌∙◌}
 use Prim.Native.Nat.{◌-◌, ◌≤◌}
-use native.Mathlib.Omega.{arith}
-use Rattle.lister.proofs.Starts.{place_few}
-use Rattle.step.proofs.Scanning.{Tracked, first_few, tracked_none, tracked_hidden, tracked_plain, tracked_emit, tracked_signal, tracked_all}
-use borrow.Author.Rules.{rules}
+use Rattle.step.proofs.Scanning.{Tracked}
 use Rattle.step.proofs.free.emitted_with.Given as goal
 
 abbrev pub invariant-loop-next : goal.invariant-loop-next

@@ -4,7 +4,6 @@ use Rattle.sets.proofs.Counts.{count_width}
 use Rattle.table.specs.inner.Places.{statement_of}
 use Rattle.list.specs.inner.Preparing.{state_in}
 use Rattle.step.proofs.Splits.{slots_for, attempts_none, attempts_narrow, attempts_over, attempts_rows}
-use borrow.Author.Rules.{rules}
 use Rattle.step.proofs.looking.attempt_in.Goals as goal
 
 pub returns-then-limit-many : goal.returns-then-limit-many

@@ -1,6 +1,5 @@
 -- By the variants of both.
 use Rattle.step.proofs.Joins.{first_refused, first_none, several_refused, several_one, several_none, several_several, one_refused, one_none, one_several, other_emitted, other_code, other_reached, same_reaction}
-use borrow.Author.Rules.{rules}
 use Rattle.step.proofs.looking.combined.Goals as goal
 
 pub returns-then-o-emitted : goal.returns-then-o-emitted

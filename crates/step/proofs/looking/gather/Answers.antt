@@ -1,8 +1,7 @@
 -- The invariant: what the rows from the i-th on come to. The measure is i.
 use mathlib.Core.Path.{sym, ◌∙◌}
 use native.Mathlib.Omega.{arith}
-use Rattle.step.proofs.Rows.{Gathering, gathering_none, gathering_step, gathering_other, gathering_all}
-use borrow.Author.Rules.{rules}
+use Rattle.step.proofs.Rows.{gathering_none, gathering_step, gathering_other, gathering_all}
 use Rattle.step.proofs.looking.gather.Goals as goal
 
 pub loop-i-init : goal.loop-i-init

@@ -1,7 +1,4 @@
-use mathlib.Core.Path.{sym, ◌∙◌}
-use native.Mathlib.Omega.{arith}
-use Rattle.step.proofs.Rows.{Gathering, gathering_none, gathering_step, gathering_other, gathering_all}
-use borrow.Author.Rules.{rules}
+use Rattle.step.proofs.Rows.{Gathering}
 use Rattle.step.proofs.looking.gather.Given as goal
 
 abbrev pub invariant-loop-i : goal.invariant-loop-i

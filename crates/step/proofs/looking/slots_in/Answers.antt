@@ -1,8 +1,7 @@
 -- The invariant: what is gathered, with the slots of what is left, is all. The measure is how many are left.
 use native.Mathlib.Omega.{arith}
-use Rattle.sets.specs.Set.{◌intersect◌, count}
-use Rattle.step.proofs.Slots.{Gathered, gathered_none, gathered_next, gathered_all, slot_low, fewer}
-use borrow.Author.Rules.{rules}
+use Rattle.sets.specs.Set.{◌intersect◌}
+use Rattle.step.proofs.Slots.{gathered_none, gathered_next, gathered_all, slot_low, fewer}
 use Rattle.step.proofs.looking.slots_in.Goals as goal
 
 pub loop-rest-init : goal.loop-rest-init

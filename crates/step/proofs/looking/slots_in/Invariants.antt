@@ -1,7 +1,5 @@
-use native.Mathlib.Omega.{arith}
-use Rattle.sets.specs.Set.{◌intersect◌, count}
-use Rattle.step.proofs.Slots.{Gathered, gathered_none, gathered_next, gathered_all, slot_low, fewer}
-use borrow.Author.Rules.{rules}
+use Rattle.sets.specs.Set.{count}
+use Rattle.step.proofs.Slots.{Gathered}
 use Rattle.step.proofs.looking.slots_in.Given as goal
 
 abbrev pub invariant-loop-rest : goal.invariant-loop-rest

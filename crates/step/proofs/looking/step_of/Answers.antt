@@ -1,7 +1,6 @@
 -- Its fields are those of the row.
 use Rattle.sets.specs.Set.{◌union◌}
 use Rattle.step.proofs.Rows.{step_given}
-use borrow.Author.Rules.{rules}
 use Rattle.step.proofs.looking.step_of.Goals as goal
 
 pub returns : goal.returns

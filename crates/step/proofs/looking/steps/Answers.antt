@@ -1,7 +1,6 @@
 -- By the tests: a row without a condition needs no slots.
 use Rattle.sets.specs.Set.{◌union◌}
 use Rattle.step.proofs.Rows.{steps_off, steps_met, steps_sure}
-use borrow.Author.Rules.{rules}
 use Rattle.step.proofs.looking.steps.Goals as goal
 
 pub returns-then-minus : goal.returns-then-minus

@@ -3,7 +3,6 @@ use mathlib.Core.Path.{sym, ap, ◌∙◌}
 use lib.ListN.{get_or-eq_default}
 use Rattle.table.specs.Kinds.{unused, kinds, kind_of, row_of}
 use Rattle.table.proofs.Rows.{row_at}
-use borrow.Author.Rules.{rules}
 use Rattle.table.proofs.kinds.row_in.Goals as goal
 
 pub returns-then-kind-lt16 : goal.returns-then-kind-lt16

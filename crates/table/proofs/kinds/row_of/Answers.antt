@@ -2,7 +2,6 @@
 use mathlib.Core.Path.{refl}
 use Rattle.table.specs.Kinds.{kinds, row_of}
 use Rattle.table.proofs.Rows.{rows_are}
-use borrow.Author.Rules.{rules}
 use Rattle.table.proofs.kinds.row_of.Goals as goal
 
 pub row_in-requires : goal.row_in-requires

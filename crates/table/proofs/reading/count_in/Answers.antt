@@ -1,6 +1,5 @@
 -- `table::reading::count_in` meets its contract: the count is the low 12 bits of the first word (proofs/Header).
 use native.Mathlib.Omega.{arith}
-use borrow.Author.Rules.{rules}
 use Rattle.table.proofs.Header.{count_none, count_read}
 use Rattle.table.proofs.reading.count_in.Goals as goal
 

@@ -4,7 +4,6 @@ use native.Mathlib.Omega.{arith}
 use lib.ListN.{length-set}
 use Rattle.table.specs.Reading.{length_of}
 use Rattle.table.proofs.Cutting.{four_cut}
-use borrow.Author.Rules.{rules}
 use Rattle.table.proofs.reading.cut_four.Goals as goal
 
 pub field_at-requires : goal.field_at-requires

@@ -2,7 +2,6 @@
 use native.Mathlib.Omega.{arith}
 use Rattle.table.specs.Reading.{length_of}
 use Rattle.table.proofs.Cutting.{bit_even, one_cut}
-use borrow.Author.Rules.{rules}
 use Rattle.table.proofs.reading.cut_one.Goals as goal
 
 pub overflow_sub-bit : goal.overflow_sub-bit

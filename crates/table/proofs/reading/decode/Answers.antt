@@ -1,9 +1,9 @@
 -- The loops' invariant: the nodes cut so far were put in front of the buffer.
 use mathlib.Core.Path.{◌≡◌, refl, ◌∙◌, subst}
-use Prim.Native.Nat.{ℕ, ◌+◌, ◌-◌, ◌%◌, ◌≤◌}
+use Prim.Native.Nat.{ℕ, ◌+◌}
 use native.Mathlib.Omega.{arith}
 use Rattle.table.specs.Reading.{length_of}
-use Rattle.table.specs.inner.Loading.{Front, Cut}
+use Rattle.table.specs.inner.Loading.{Front}
 use Rattle.table.proofs.Cutting.{cut_none, cut_then, cut_all, length_cut}
 use Rattle.table.proofs.reading.decode.Goals as goal
 

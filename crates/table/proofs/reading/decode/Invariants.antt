@@ -1,9 +1,6 @@
-use mathlib.Core.Path.{◌≡◌, refl, ◌∙◌, subst}
-use Prim.Native.Nat.{ℕ, ◌+◌, ◌-◌, ◌%◌, ◌≤◌}
-use native.Mathlib.Omega.{arith}
-use Rattle.table.specs.Reading.{length_of}
-use Rattle.table.specs.inner.Loading.{Front, Cut}
-use Rattle.table.proofs.Cutting.{cut_none, cut_then, cut_all, length_cut}
+use mathlib.Core.Path.{◌≡◌}
+use Prim.Native.Nat.{◌-◌, ◌%◌, ◌≤◌}
+use Rattle.table.specs.inner.Loading.{Cut}
 use Rattle.table.proofs.reading.decode.Given as goal
 
 abbrev pub invariant-loop-i : goal.invariant-loop-i

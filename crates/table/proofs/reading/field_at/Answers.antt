@@ -2,7 +2,6 @@
 use lib.Bits.{and_mask}
 use mathlib.Core.Path.{◌∙◌, ap}
 use Prim.Native.Nat.{ℕ, ◌/◌, ◌%◌, ◌^◌}
-use borrow.Author.Rules.{rules}
 use Rattle.table.proofs.reading.field_at.Goals as goal
 
 pub returns : goal.returns

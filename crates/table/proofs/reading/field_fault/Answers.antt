@@ -2,7 +2,6 @@
 use mathlib.Core.Path.{◌≡◌, refl}
 use mathlib.Core.Bool.{Bool, true, false, cond, ◌||◌}
 use Prim.Native.Nat.{ℕ}
-use borrow.Author.Rules.{rules}
 use lib.Dec.{eqb, ltb}
 use Rattle.table.specs.inner.Loading.{field_fault}
 use Rattle.table.proofs.reading.field_fault.Goals as goal

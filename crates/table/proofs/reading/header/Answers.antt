@@ -1,9 +1,7 @@
 -- `table::reading::header` meets its contract: its tests are those on the first word and the last byte (proofs/Header).
-use mathlib.Core.List.{List}
-use Prim.Native.Nat.{ℕ, ◌*◌}
+use Prim.Native.Nat.{◌*◌}
 use native.Mathlib.Omega.{arith}
 use lib.Bits.{bit_and, mask_lt}
-use borrow.Author.Rules.{rules}
 use Rattle.table.proofs.Header.{FirstWord, refused_short, pad_width_small, pad_mask_some, refused_edition, refused_none, refused_many, refused_length, refused_padding, header_passed}
 use Rattle.table.proofs.reading.header.Goals as goal
 

@@ -1,5 +1,4 @@
 -- `table::reading::label_fault` meets its contract, by what `contains` says.
-use borrow.Author.Rules.{rules}
 use Rattle.table.proofs.reading.label_fault.Goals as goal
 
 pub returns-then-contains : goal.returns-then-contains

@@ -1,14 +1,11 @@
 -- `table::load` meets its contract: by what the header and the nodes gave (proofs/Loading).
 use mathlib.Core.Path.{◌≡◌, sym, ◌∙◌}
-use mathlib.Core.List.{List}
-use Prim.Native.Nat.{ℕ, ◌≤◌}
+use Prim.Native.Nat.{◌≤◌}
 use native.Mathlib.Omega.{arith}
-use borrow.Author.Rules.{rules}
 use Rattle.table.specs.declared.Checked.TheVariants.{Accepted}
 use Rattle.table.specs.Reading.{header_of}
 use Rattle.table.proofs.Header.{Headed, header_accepted}
 use Rattle.table.proofs.Loading.{load_refused, load_walked}
-
 -- the header is accepted
 use Rattle.table.proofs.reading.load.Goals as goal
 

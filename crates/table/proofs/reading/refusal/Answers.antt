@@ -1,6 +1,5 @@
 -- `table::refusal` meets its contract.
 use mathlib.Core.Path.{ap, sym}
-use borrow.Author.Rules.{rules}
 use Rattle.table.specs.Outcomes.{number_of}
 use Rattle.table.specs.Reading.{checked_outcome}
 use Rattle.table.proofs.reading.refusal.Goals as goal

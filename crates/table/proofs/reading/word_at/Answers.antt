@@ -1,7 +1,6 @@
 -- `table::reading::word_at` meets its contract: two bytes side by side, by a shift.
 use Prim.Native.Nat.{◌+◌}
 use native.Mathlib.Omega.{arith}
-use borrow.Author.Rules.{rules}
 use Rattle.table.proofs.Cutting.{joined}
 use Rattle.table.proofs.reading.word_at.Goals as goal
 

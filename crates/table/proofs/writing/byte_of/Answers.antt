@@ -1,7 +1,6 @@
 -- `table::writing::byte_of` meets its contract: the mask is the remainder by 256.
 use Prim.Native.Nat.{◌/◌, ◌^◌}
 use lib.Bits.{and_mask, mask_lt}
-use borrow.Author.Rules.{rules}
 use Rattle.table.proofs.writing.byte_of.Goals as goal
 
 pub overflow_cast-result : goal.overflow_cast-result

@@ -1,11 +1,10 @@
 -- `table::writing::gather` meets its contract: after i turns the word holds the first i nodes.
 use mathlib.Core.Path.{◌≡◌}
 use mathlib.Core.List.{List}
-use Prim.Native.Nat.{ℕ, ◌+◌, ◌-◌, ◌≤◌, ◌<◌}
+use Prim.Native.Nat.{ℕ, ◌+◌, ◌<◌}
 use native.Mathlib.Omega.{arith}
-use lib.ListN.{length, take, drop, length-drop}
+use lib.ListN.{length, drop, length-drop}
 use lib.Seq.{get_or-drop}
-use Rattle.table.specs.inner.Making.{Gathered}
 use Rattle.table.proofs.Bits.{below_drop}
 use Rattle.table.proofs.Packing.{gathered_none, gathered_more}
 use Rattle.table.proofs.writing.gather.Goals as goal

@@ -1,12 +1,6 @@
-use mathlib.Core.Path.{◌≡◌}
-use mathlib.Core.List.{List}
-use Prim.Native.Nat.{ℕ, ◌+◌, ◌-◌, ◌≤◌, ◌<◌}
-use native.Mathlib.Omega.{arith}
-use lib.ListN.{length, take, drop, length-drop}
-use lib.Seq.{get_or-drop}
+use Prim.Native.Nat.{◌-◌, ◌≤◌}
+use lib.ListN.{take, drop}
 use Rattle.table.specs.inner.Making.{Gathered}
-use Rattle.table.proofs.Bits.{below_drop}
-use Rattle.table.proofs.Packing.{gathered_none, gathered_more}
 use Rattle.table.proofs.writing.gather.Given as goal
 
 abbrev pub invariant-loop-i : goal.invariant-loop-i

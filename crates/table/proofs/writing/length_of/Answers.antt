@@ -1,7 +1,6 @@
 -- `table::writing::length_of` meets its contract: its definition.
 use mathlib.Core.Path.{refl}
 use Rattle.table.specs.Reading.{length_of}
-use borrow.Author.Rules.{rules}
 use Rattle.table.proofs.writing.length_of.Goals as goal
 
 pub returns : goal.returns

@@ -1,6 +1,5 @@
 -- `table::writing::node_of` meets its contract: the operand stays below the bits of the kind.
 use Rattle.table.proofs.Making.{made}
-use borrow.Author.Rules.{rules}
 use Rattle.table.proofs.writing.node_of.Goals as goal
 
 pub returns : goal.returns

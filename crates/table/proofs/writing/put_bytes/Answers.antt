@@ -1,9 +1,8 @@
 -- `table::writing::put_bytes` meets its contract: after i turns the first i bytes of the word stand at `at`.
 use mathlib.Core.Path.{◌≡◌, refl}
-use Prim.Native.Nat.{◌-◌, ◌≤◌}
 use native.Mathlib.Omega.{arith}
-use lib.ListN.{length, length-set}
-use lib.Seq.{paste, paste-zero}
+use lib.ListN.{length-set}
+use lib.Seq.{paste-zero}
 use Rattle.table.specs.Bits.{bytes}
 use Rattle.table.proofs.Packing.{put_byte}
 use Rattle.table.proofs.writing.put_bytes.Goals as goal
@@ -16,13 +15,12 @@ loop-i-init c = (
 )
 
 pub loop-i-preserved : goal.loop-i-preserved
-loop-i-preserved c =
-    (
-      rw (c.loop-i.invariant.0, c.byte_of.ensures)
-          (put_byte c.args.out.now c.args.at c.args.word c.args.count c.loop-i.i c.loop-i-test.true c.requires.1),
-      omega arith,
-      simp length-set c.loop-i.invariant.2,
-    )
+loop-i-preserved c = (
+  rw (c.loop-i.invariant.0, c.byte_of.ensures)
+      (put_byte c.args.out.now c.args.at c.args.word c.args.count c.loop-i.i c.loop-i-test.true c.requires.1),
+  omega arith,
+  simp length-set c.loop-i.invariant.2,
+)
 
 pub shape_of-out : goal.shape_of-out
 shape_of-out c = c.loop-i.invariant.2

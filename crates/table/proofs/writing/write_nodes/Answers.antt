@@ -1,6 +1,4 @@
 -- `table::writing::write_nodes` meets its contract: after each turn the bytes of the nodes before i are written.
-use mathlib.Core.List.{List}
-use Prim.Native.Nat.{ℕ, ◌-◌}
 use native.Mathlib.Omega.{arith}
 use lib.ListN.{length}
 use Rattle.table.specs.Reading.{length_of}
