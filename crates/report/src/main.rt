@@ -1,8 +1,12 @@
 // Reads a table from standard input and prints its node counts before and after trimming, the labels that can ever be
 // reached, and the number of rounds; or the refusal.
 #![tactic(auto)]
-use libc::{STDIN_FILENO, STDOUT_FILENO};
+
+ghost use Rattle.std.specs.Prelude.{◌≤◌, length, IfOk};
+
 use reach::Reached;
+use std::io;
+use std::io::Read;
 use trim::Trimmed;
 
 // The bytes of the longest table.
@@ -12,38 +16,37 @@ const LONGEST: usize = 1282;
 const LABELS: u8 = 64;
 
 // A word and a number.
-fn print_number(word: &[u8], number: u64) {
-    io::write_all(STDOUT_FILENO, word);
-    io::print_decimal(STDOUT_FILENO, number);
+fn print_number(rt: &impl Print, word: &str, number: u64) -> io::Result<()> {
+    print!(rt; "{word}{number}")
 }
 
-fn print_refused(refusal: u8) {
-    print_number(b"refused ", refusal as u64);
-    io::write_all(STDOUT_FILENO, b"\n");
+fn print_refused(rt: &impl Print, refusal: u8) -> io::Result<()> {
+    print_number(rt, "refused ", refusal as u64)?;
+    println!(rt)
 }
 
 // The labels of the set, rising.
-fn print_labels(set: u64) {
-    io::write_all(STDOUT_FILENO, b"labels");
+fn print_labels(rt: &impl Print, set: u64) -> io::Result<()> {
+    print!(rt; "labels")?;
     for label in 0u8..LABELS {
         if sets::contains(set, label) {
-            print_number(b" ", label as u64);
+            print_number(rt, " ", label as u64)?;
         }
     }
-    io::write_all(STDOUT_FILENO, b"\n");
+    println!(rt)
 }
 
-fn print_report(before: u16, after: u16, set: u64, rounds: u32) {
-    print_number(b"nodes ", before as u64);
-    print_number(b" ", after as u64);
-    io::write_all(STDOUT_FILENO, b"\n");
-    print_labels(set);
-    print_number(b"rounds ", rounds as u64);
-    io::write_all(STDOUT_FILENO, b"\n");
+fn print_report(rt: &impl Print, before: u16, after: u16, set: u64, rounds: u32) -> io::Result<()> {
+    print_number(rt, "nodes ", before as u64)?;
+    print_number(rt, " ", after as u64)?;
+    println!(rt)?;
+    print_labels(rt, set)?;
+    print_number(rt, "rounds ", rounds as u64)?;
+    println!(rt)
 }
 
 // Reach gives check's refusals. After that trim has only 12 to give, since there is room for the longest table.
-fn report(table: &[u8]) {
+fn report(rt: &impl Print, table: &[u8]) -> io::Result<()> {
     let reached = reach::reach(table);
     let Reached::Found {
         ends: _,
@@ -52,21 +55,35 @@ fn report(table: &[u8]) {
         rounds,
     } = reached
     else {
-        print_refused(reach::refusal(reached));
-        return;
+        return print_refused(rt, reach::refusal(reached));
     };
     let mut out = [0u8; LONGEST];
     let trimmed = trim::trim(table, &mut out);
     let Trimmed::Accepted(after) = trimmed else {
-        print_refused(trim::refusal(trimmed));
-        return;
+        return print_refused(rt, trim::refusal(trimmed));
     };
-    print_report(table::count_in(table), after.nodes, set, rounds);
+    print_report(rt, table::count_in(table), after.nodes, set, rounds)
 }
 
-fn main() {
+// Reads until the buffer is full or the input ends, and gives how many bytes were read.
+fn read_full(rt: &impl Input, buffer: &mut [u8]) -> io::Result<usize>
+    ensures { IfOk result (λ count. count ≤ length buffer.new) }
+{
+    let mut reader = rt.reader();
+    let mut done = 0;
+    while done < buffer.len() {
+        let count = reader.read(&mut buffer[done..])?;
+        if count == 0 {
+            break;
+        }
+        done += count;
+    }
+    Ok(done)
+}
+
+fn main(rt: HostRuntime) -> io::Result<()> {
     // One byte more than the longest table: check refuses it as it would refuse any more.
     let mut input = [0u8; LONGEST + 1];
-    let length = io::read_full(STDIN_FILENO, &mut input);
-    report(&input[..length]);
+    let length = read_full(&rt, &mut input)?;
+    report(&rt, &input[..length])
 }

@@ -1,5 +1,6 @@
 // Writing a table as statement text.
 #![tactic(auto)]
+
 mod writing;
 
 ghost use Rattle.std.specs.Prelude.{◌≡◌, length};

@@ -1,12 +1,11 @@
 -- `reach::rounds_with` meets its contract. The invariant: R is that of the rounds made, each of which added a label, with the
 -- labels of s and of d over R. The measure is the number of labels that can still be added.
-use Prim.Native.Nat.{◌-◌}
 use native.Mathlib.Omega.{arith}
 use borrow.Author.Rules.{rules}
-use Rattle.sets.specs.Set.{◌union◌, count}
+use Rattle.sets.specs.Set.{◌union◌}
 use Rattle.table.specs.Reading.{deepest}
 use Rattle.table.specs.inner.Places.{statement_at, statement_of}
-use Rattle.reach.proofs.Rounds.{Going, few_rounds, none_yet, goes_on, falls, rests, not_refused}
+use Rattle.reach.proofs.Rounds.{few_rounds, none_yet, goes_on, falls, rests, not_refused}
 use Rattle.reach.proofs.rounds_with.Goals as goal
 
 pub summary_at-found-requires : goal.summary_at-found-requires

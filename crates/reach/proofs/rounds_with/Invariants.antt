@@ -1,10 +1,7 @@
 use Prim.Native.Nat.{◌-◌}
-use native.Mathlib.Omega.{arith}
-use borrow.Author.Rules.{rules}
-use Rattle.sets.specs.Set.{◌union◌, count}
-use Rattle.table.specs.Reading.{deepest}
-use Rattle.table.specs.inner.Places.{statement_at, statement_of}
-use Rattle.reach.proofs.Rounds.{Going, few_rounds, none_yet, goes_on, falls, rests, not_refused}
+use Rattle.sets.specs.Set.{count}
+use Rattle.table.specs.inner.Places.{statement_of}
+use Rattle.reach.proofs.Rounds.{Going}
 use Rattle.reach.proofs.rounds_with.Given as goal
 
 abbrev pub invariant-loop-set : goal.invariant-loop-set

@@ -2,7 +2,6 @@
 use mathlib.Core.Path.{sym, ap, ◌∙◌}
 use Rattle.esterel.specs.Codes.{Codes, join}
 use Rattle.reach.specs.inner.CodeSets.{codes_of}
-use borrow.Author.Rules.{rules}
 use Rattle.reach.proofs.CodeSets.{goes_on, stops}
 use Rattle.reach.proofs.codes.followed_by.Goals as goal
 

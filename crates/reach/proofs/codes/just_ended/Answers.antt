@@ -1,5 +1,4 @@
 -- `codes::just_ended` meets its contract.
-use borrow.Author.Rules.{rules}
 use Rattle.reach.proofs.CodeSets.{view_ended}
 use Rattle.reach.proofs.codes.just_ended.Goals as goal
 

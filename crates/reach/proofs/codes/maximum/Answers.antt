@@ -1,6 +1,5 @@
 -- `codes::maximum` meets its contract.
 use mathlib.Core.Path.{ap₂, ◌∙◌}
-use borrow.Author.Rules.{rules}
 use Rattle.esterel.specs.Codes.{join, maximum}
 use Rattle.reach.proofs.codes.maximum.Goals as goal
 

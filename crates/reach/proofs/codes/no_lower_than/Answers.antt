@@ -2,7 +2,6 @@
 use mathlib.Core.Path.{sym, ap, ◌∙◌}
 use Prim.Native.Nat.{ℕ}
 use Rattle.reach.specs.inner.CodeSets.{codes_of}
-use borrow.Author.Rules.{rules}
 use Rattle.reach.proofs.CodeSets.{words, all_kept, zero_dropped, higher_kept}
 use Rattle.reach.proofs.codes.no_lower_than.Goals as goal
 

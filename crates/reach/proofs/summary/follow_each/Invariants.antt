@@ -1,8 +1,7 @@
-use mathlib.Core.Path.{ap, ◌∙◌}
 use Rattle.sets.specs.Set.{count}
-use Rattle.esterel.specs.Codes.{Codes, join, minus_zero}
+use Rattle.esterel.specs.Codes.{join, minus_zero}
 use Rattle.reach.specs.inner.CodeSets.{codes_of}
-use Rattle.reach.proofs.Summaries.{Walking, walk_begins, walk_falls, walk_on, walk_ends}
+use Rattle.reach.proofs.Summaries.{Walking}
 use Rattle.reach.proofs.summary.follow_each.Given as goal
 
 abbrev pub invariant-loop-rest : goal.invariant-loop-rest

@@ -1,7 +1,6 @@
 -- `summary::labels_from` meets its contract: each label of the set is still left, or its labels are in.
-use Rattle.sets.specs.Set.{◌union◌, count}
-use Rattle.reach.proofs.Summaries.{Gathering, walk_falls, gather_begins, gather_on, gather_ends}
-use native.Mathlib.Omega.{arith}
+use Rattle.sets.specs.Set.{◌union◌}
+use Rattle.reach.proofs.Summaries.{walk_falls, gather_begins, gather_on, gather_ends}
 use Rattle.reach.proofs.summary.labels_from.Goals as goal
 
 pub loop-rest-init : goal.loop-rest-init
@@ -18,7 +17,7 @@ without-rest-requires c = tt
 
 pub loop-rest-smaller : goal.loop-rest-smaller
 loop-rest-smaller c =
-    walk_falls (omega arith) c.least.result c.without-rest.result c.least.ensures.0 c.least.ensures.1 c.without-rest.ensures
+    walk_falls c.loop-rest.rest c.least.result c.without-rest.result c.least.ensures.0 c.least.ensures.1 c.without-rest.ensures
 
 pub loop-rest-preserved : goal.loop-rest-preserved
 unfolding ◌union◌

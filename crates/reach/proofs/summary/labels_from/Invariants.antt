@@ -1,5 +1,5 @@
-use Rattle.sets.specs.Set.{◌union◌, count}
-use Rattle.reach.proofs.Summaries.{Gathering, walk_falls, gather_begins, gather_on, gather_ends}
+use Rattle.sets.specs.Set.{count}
+use Rattle.reach.proofs.Summaries.{Gathering}
 use Rattle.reach.proofs.summary.labels_from.Given as goal
 
 abbrev pub invariant-loop-rest : goal.invariant-loop-rest

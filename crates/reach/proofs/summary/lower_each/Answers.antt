@@ -2,11 +2,10 @@
 use mathlib.Core.Path.{ap, ap₂, ◌∙◌}
 use mathlib.Core.Bool.{Bool, cond}
 use Prim.Native.Nat.{ℕ}
-use Rattle.sets.specs.Set.{◌union◌, count}
+use Rattle.sets.specs.Set.{◌union◌}
 use Rattle.sets.proofs.Members.{only_fits}
 use Rattle.esterel.specs.Codes.{through_try}
-use Rattle.reach.proofs.Summaries.{Lowering, walk_falls, lower_begins, lower_on, lower_ends}
-use native.Mathlib.Omega.{arith}
+use Rattle.reach.proofs.Summaries.{walk_falls, lower_begins, lower_on, lower_ends}
 use Rattle.reach.proofs.summary.lower_each.Goals as goal
 
 pub loop-rest-init : goal.loop-rest-init
@@ -38,12 +37,12 @@ without-rest-requires c = tt
 
 pub loop-rest-smaller : goal.loop-rest-smaller
 loop-rest-smaller c =
-    walk_falls (omega arith) c.least.result c.without-rest.result c.least.ensures.0 c.least.ensures.1 c.without-rest.ensures
+    walk_falls c.loop-rest.rest c.least.result c.without-rest.result c.least.ensures.0 c.least.ensures.1 c.without-rest.ensures
 
 pub loop-rest-preserved : goal.loop-rest-preserved
 unfolding ◌union◌
 loop-rest-preserved c =
-    lower_on c.args.set (omega arith) c.args.kept.now c.loop-rest.auto c.loop-rest.ending c.loop-rest.invariant
+    lower_on c.args.set c.loop-rest.rest c.args.kept.now c.loop-rest.kept c.loop-rest.ending c.loop-rest.invariant
     c.least.result c.least.ensures.0 c.least.ensures.1 c.requires
     c.through_try-lowered.result (c.through_try-lowered.ensures ∙ ap through_try c.read.ensures) _ c.store.ensures c.set_if-ending.result
     (c.set_if-ending.ensures ∙ ap₂ (λ (z : Bool) (m : ℕ). cond z m 0) c.ends.ensures (c.singleton.ensures ∙ only_fits 64 c.least.result c.least.ensures.0))
@@ -51,4 +50,4 @@ loop-rest-preserved c =
 
 pub returns : goal.returns
 returns c =
-    lower_ends c.args.set c.loop-rest.rest c.args.kept.now c.loop-rest.auto c.loop-rest.ending c.loop-rest.invariant c.loop-rest-test.false
+    lower_ends c.args.set c.loop-rest.rest c.args.kept.now c.loop-rest.kept c.loop-rest.ending c.loop-rest.invariant c.loop-rest-test.false

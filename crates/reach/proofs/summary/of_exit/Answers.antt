@@ -1,7 +1,6 @@
 -- `summary::of_exit` meets its contract: its code goes through `code_of`.
 use mathlib.Core.Path.{ap, ◌∙◌}
 use native.Mathlib.Omega.{arith}
-use borrow.Author.Rules.{rules}
 use Rattle.esterel.specs.Codes.{code_of, just_code}
 use Rattle.reach.specs.inner.Summaries.{outline_of}
 use Rattle.reach.proofs.Summaries.{same_start}

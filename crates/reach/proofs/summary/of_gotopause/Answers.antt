@@ -1,5 +1,4 @@
 -- `summary::of_gotopause` meets its contract.
-use borrow.Author.Rules.{rules}
 use Rattle.reach.specs.inner.Summaries.{outline_of}
 use Rattle.reach.proofs.Summaries.{same_start}
 use Rattle.reach.proofs.summary.of_gotopause.Goals as goal

@@ -1,5 +1,4 @@
 -- `summary::of_loop` meets its contract.
-use borrow.Author.Rules.{rules}
 use Rattle.reach.specs.inner.Summaries.{outline_of}
 use Rattle.reach.proofs.Summaries.{same_start, follow_same}
 use Rattle.reach.proofs.summary.of_loop.Goals as goal
@@ -9,4 +8,4 @@ follow_each-requires c = c.requires
 
 pub returns : goal.returns
 unfolding outline_of
-returns c = (same_start c.minus_zero-start.ensures, follow_same c.follow_each.ensures c.minus_zero-start.ensures)
+returns c = record { result_value = same_start c.minus_zero-start.ensures; follows = follow_same c.follow_each.ensures c.minus_zero-start.ensures }

@@ -1,5 +1,4 @@
 -- `summary::of_parallel` meets its contract.
-use borrow.Author.Rules.{rules}
 use Rattle.sets.specs.Set.{◌union◌}
 use Rattle.reach.specs.inner.Summaries.{outline_of, parallel_outline}
 use Rattle.reach.proofs.Summaries.{same_start}

@@ -1,6 +1,5 @@
 -- `summary::of_pause` meets its contract.
 use mathlib.Core.Path.{◌∙◌}
-use borrow.Author.Rules.{rules}
 use Rattle.sets.proofs.Members.{only_fits}
 use Rattle.reach.specs.inner.Summaries.{outline_of}
 use Rattle.reach.proofs.Summaries.{outline_own, changed_own}
@@ -15,7 +14,7 @@ just_at-requires c = c.requires.0
 pub returns : goal.returns
 unfolding outline_of
 returns c =
-    (
-      outline_own c.just_at.ensures (c.singleton-own.ensures ∙ only_fits 64 c.args.label.0 c.requires.0),
-      changed_own c.args.kept.now c.requires.1 c.args.label.0 c.requires.0 c.just_ended.result c.just_ended.ensures _ c.store.ensures,
-    )
+    record {
+      result_value = outline_own c.just_at.ensures (c.singleton-own.ensures ∙ only_fits 64 c.args.label.0 c.requires.0);
+      changed = changed_own c.args.kept.now c.requires.1 c.args.label.0 c.requires.0 c.just_ended.result c.just_ended.ensures _ c.store.ensures;
+    }

@@ -2,7 +2,6 @@
 use mathlib.Core.Path.{ap, ◌∙◌}
 use mathlib.Core.Bool.{Bool, cond}
 use Prim.Native.Nat.{ℕ}
-use borrow.Author.Rules.{rules}
 use Rattle.sets.specs.Set.{◌union◌}
 use Rattle.reach.specs.inner.Summaries.{outline_of, sequence_outline}
 use Rattle.reach.proofs.Summaries.{same_outline}
@@ -15,4 +14,7 @@ pub returns : goal.returns
 unfolding outline_of sequence_outline ◌union◌
 returns c =
     let e = c.set_if.ensures ∙ ap (λ (z : Bool). cond z c.args.p.ending 0) c.ends.ensures in
-    (same_outline c.followed_by.ensures (ap (λ (m : ℕ). m union c.args.q.ending) e), c.follow_each.ensures)
+    record {
+      result_value = same_outline c.followed_by.ensures (ap (λ (m : ℕ). m union c.args.q.ending) e);
+      follows = c.follow_each.ensures;
+    }

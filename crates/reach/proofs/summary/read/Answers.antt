@@ -1,6 +1,5 @@
 -- `summary::read` meets its contract.
 use mathlib.Core.Path.{refl}
-use borrow.Author.Rules.{rules}
 use Rattle.reach.specs.inner.Summaries.{resumed_from}
 use Rattle.reach.proofs.summary.read.Goals as goal
 

@@ -1,6 +1,5 @@
 -- `summary::refused` meets its contract.
 use mathlib.Core.Path.{ap}
-use borrow.Author.Rules.{rules}
 use Rattle.reach.specs.inner.Summaries.{Outline, outline_of}
 use Rattle.reach.proofs.summary.refused.Goals as goal
 

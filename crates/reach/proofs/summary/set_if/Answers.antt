@@ -4,7 +4,6 @@ use mathlib.Core.Path.{◌≡◌}
 use mathlib.Core.Bool.{Bool, true, false, cond}
 use mir.Val.{bool_byte}
 use native.Mathlib.Omega.{arith}
-use borrow.Author.Rules.{rules}
 use Rattle.reach.proofs.summary.set_if.Goals as goal
 
 times : (yes : Bool) (set : ℕ) → set * bool_byte yes ≡ cond yes set 0

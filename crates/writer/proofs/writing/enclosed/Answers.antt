@@ -1,6 +1,5 @@
 -- By what is asked for.
 use Rattle.writer.specs.inner.Texts.{level_asked, enclosed_at}
-use borrow.Author.Rules.{rules}
 use Rattle.writer.proofs.writing.enclosed.Goals as goal
 
 pub returns-in-Single : goal.returns-in-Single

@@ -3,7 +3,6 @@ use native.Mathlib.Omega.{arith}
 use Rattle.table.proofs.Bits.{length_bytes}
 use Rattle.writer.proofs.Putting.{put_word}
 use mathlib.Core.Path.{refl}
-use borrow.Author.Rules.{rules}
 use Rattle.writer.proofs.writing.put.Goals as goal
 
 pub put_bytes-requires : goal.put_bytes-requires

@@ -2,7 +2,6 @@
 use native.Mathlib.Omega.{arith}
 use Rattle.writer.proofs.Putting.{room_same, put_same}
 use Rattle.writer.proofs.Words.{semicolon_word, bars_word, else_word}
-use borrow.Author.Rules.{rules}
 use Rattle.writer.proofs.writing.put_between.Goals as goal
 
 pub put-requires : goal.put-requires

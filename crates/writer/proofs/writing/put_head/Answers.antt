@@ -2,7 +2,6 @@
 use native.Mathlib.Omega.{arith}
 use Rattle.writer.proofs.Putting.{pieces, room_same, room_first, room_next, put_same, put_both, put_then, put_none, room_place}
 use Rattle.writer.proofs.Words.{signal_words, present_words, loop_words, try_words, opening_word, no_opening}
-use borrow.Author.Rules.{rules}
 use Rattle.writer.proofs.writing.put_head.Goals as goal
 
 pub put_numbered-signal-requires : goal.put_numbered-signal-requires

@@ -2,7 +2,6 @@
 use native.Mathlib.Omega.{arith}
 use Rattle.writer.proofs.Putting.{room_same, room_first, room_next, put_same, put_then}
 use Rattle.writer.proofs.Words.{pause_words, gotopause_words, emit_words, exit_words, nothing_words}
-use borrow.Author.Rules.{rules}
 use Rattle.writer.proofs.writing.put_leaf.Goals as goal
 
 pub put_number-label-requires : goal.put_number-label-requires

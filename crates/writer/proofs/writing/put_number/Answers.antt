@@ -8,8 +8,6 @@ use Rattle.text.specs.Spelling.{digits}
 use Rattle.text.proofs.Decimal.{digits_one}
 use Rattle.writer.proofs.Putting.{room_same, put_same, put_one, put_two}
 use Rattle.writer.proofs.Words.{digits_two}
-use borrow.Author.Rules.{rules}
-
 -- one digit
 use Rattle.writer.proofs.writing.put_number.Goals as goal
 

@@ -1,6 +1,5 @@
 -- One after the other.
 use Rattle.writer.proofs.Putting.{pieces, room_first, room_next, put_both}
-use borrow.Author.Rules.{rules}
 use Rattle.writer.proofs.writing.put_numbered.Goals as goal
 
 pub put-behind-requires : goal.put-behind-requires

@@ -2,7 +2,6 @@
 use native.Mathlib.Omega.{arith}
 use Rattle.writer.proofs.Putting.{room_same, put_same, put_none, room_place}
 use Rattle.writer.proofs.Words.{end_word, closing_word, no_closing}
-use borrow.Author.Rules.{rules}
 use Rattle.writer.proofs.writing.put_tail.Goals as goal
 
 pub put-requires : goal.put-requires

@@ -2,8 +2,6 @@
 use Rattle.writer.specs.inner.Texts.{level_asked}
 use Rattle.writer.proofs.Answers.{delivered_short, delivered_copied}
 use native.Mathlib.Omega.{arith}
-use borrow.Author.Rules.{rules}
-
 -- behind the writing: the start
 use Rattle.writer.proofs.writing.write_apart.Goals as goal
 

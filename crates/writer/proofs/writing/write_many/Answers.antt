@@ -1,6 +1,5 @@
 -- The area has 20 bytes for each of 1,024 nodes.
 use native.Mathlib.Omega.{arith}
-use borrow.Author.Rules.{rules}
 use Rattle.writer.proofs.writing.write_many.Goals as goal
 
 pub write_apart-requires : goal.write_apart-requires

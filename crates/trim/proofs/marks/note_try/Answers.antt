@@ -1,0 +1,10 @@
+-- `marks::note_try` meets its contract.
+use mathlib.Core.Path.{ap, ap₂, ◌∙◌}
+use Prim.Native.Nat.{ℕ}
+use lib.ListN.{set}
+use Rattle.trim.specs.inner.Notes.{note_with}
+use Rattle.trim.proofs.marks.note_try.Goals as goal
+
+pub returns : goal.returns
+returns c =
+    ap (λ (n : ℕ). set c.args.notes.now c.args.at n) (c.note_with.ensures ∙ ap₂ (note_with c.args.p.next c.args.p.live) c.ends_here.ensures c.ends_here-2.ensures)
