@@ -39,6 +39,7 @@ none = reaction 0 0 0
 at_listed : (ts : List Reaction) (r : Reaction) → Listed r ts → (i : ℕ) × (i < length ts) × (get_or ts i none ≡ r)
 at_listed (t ∷ ts) r (inl e) = (0, (omega arith), sym e)
 at_listed (t ∷ ts) r (inr m) = let (i, h, e) = at_listed ts r m in (suc i, (omega arith), e)
+at_listed [] r x' = elim x' [ ]
 
 listed_at : (ts : List Reaction) (i : ℕ) → i < length ts → Listed (get_or ts i none) ts
 listed_at [] i h = absurd (omega arith)

@@ -1,5 +1,6 @@
 // Reach: one pass over the nodes for a summary of the statement, then rounds over it until none adds a label.
 #![tactic(auto)]
+
 pub mod codes;
 mod summary;
 

@@ -6,6 +6,7 @@
 // Trimming works in an area of its own, which holds as many nodes as a table may have, and touches the caller's buffer only
 // when the table is known to fit.
 #![tactic(auto)]
+
 mod descent;
 mod marks;
 mod noted;
