@@ -1,6 +1,7 @@
 // The operations for C: each entry returns 0 or the refusal's number, and gives its results through pointers, which a refusal
 // leaves untouched.
 #![tactic(auto)]
+
 ghost use Rattle.std.specs.Prelude.{◌≡◌, ◌/◌, length};
 ghost use Rattle.table.specs.Outcomes.{number_of, cell_after};
 ghost use Rattle.table.specs.Reading.{check_of};

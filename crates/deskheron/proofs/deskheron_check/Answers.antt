@@ -2,7 +2,6 @@
 use mathlib.Core.Path.{◌≡◌, sym, ap, ◌∙◌}
 use Rattle.table.specs.Outcomes.{number_of, cell_after}
 use Rattle.table.specs.Reading.{checked_outcome, check_of}
-use borrow.Author.Rules.{rules}
 use Rattle.deskheron.proofs.deskheron_check.Goals as goal
 
 pub returns-in_default : goal.returns-in_default

@@ -1,5 +1,4 @@
 -- `deskheron::deskheron_list` meets its contract, by cases of the answer of list.
-use borrow.Author.Rules.{rules}
 use Rattle.deskheron.proofs.Entered.{refused_entered, listed_entered}
 use Rattle.deskheron.proofs.deskheron_list.Goals as goal
 

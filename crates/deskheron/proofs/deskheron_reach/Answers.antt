@@ -1,10 +1,8 @@
 -- `deskheron::deskheron_reach` meets its contract, by cases of reach's answer.
-use mathlib.Core.Path.{◌≡◌, refl, sym, ap, ◌∙◌}
-use mathlib.Core.Bool.{Bool, true, false, cond}
+use mathlib.Core.Path.{◌≡◌, sym, ap, ◌∙◌}
 use Rattle.sets.proofs.Booleans.{flag_byte}
 use Rattle.table.specs.Outcomes.{number_of, cell_after}
 use Rattle.reach.specs.Answers.{reached_outcome, reach_of}
-use borrow.Author.Rules.{rules}
 use Rattle.deskheron.proofs.deskheron_reach.Goals as goal
 
 pub returns-in_default : goal.returns-in_default

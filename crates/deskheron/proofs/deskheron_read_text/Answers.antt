@@ -3,7 +3,6 @@ use mathlib.Core.Path.{◌≡◌, sym, ap, ◌∙◌}
 use lib.ListN.{length}
 use Rattle.table.specs.Outcomes.{number_of, cell_after}
 use Rattle.text.specs.Answers.{answer_outcome, read_of}
-use borrow.Author.Rules.{rules}
 use Rattle.deskheron.proofs.deskheron_read_text.Goals as goal
 
 pub returns-in_default : goal.returns-in_default

@@ -2,7 +2,6 @@
 use mathlib.Core.Path.{◌≡◌, sym, ap, ◌∙◌}
 use Rattle.table.specs.Outcomes.{number_of, cell_after}
 use Rattle.step.specs.Answers.{stepped_outcome, step_of}
-use borrow.Author.Rules.{rules}
 use Rattle.deskheron.proofs.deskheron_step.Goals as goal
 
 pub returns-in-Refused : goal.returns-in-Refused

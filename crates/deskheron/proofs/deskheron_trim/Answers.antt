@@ -3,7 +3,6 @@ use mathlib.Core.Path.{◌≡◌, sym, ap, ◌∙◌}
 use lib.ListN.{length}
 use Rattle.table.specs.Outcomes.{number_of, cell_after}
 use Rattle.trim.specs.Answers.{trimmed_outcome, trim_of}
-use borrow.Author.Rules.{rules}
 use Rattle.deskheron.proofs.deskheron_trim.Goals as goal
 
 pub returns-in_default : goal.returns-in_default
