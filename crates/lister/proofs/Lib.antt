@@ -6,4 +6,5 @@ pub mod Slots
 pub mod Joins
 pub mod Signals
 pub mod Starts
+pub mod Rooms
 pub mod Resumes

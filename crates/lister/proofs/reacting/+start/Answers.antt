@@ -28,6 +28,7 @@ use Rattle.lister.proofs.Joins.{altered, beside, beside_top, joined, followed_no
 use Rattle.lister.proofs.Signals.{attempted, GaveUp, start_given_up, signal_unnamed, signal_tried, gave_up, not_tried, signal_passed, signal_twice}
 use Rattle.lister.proofs.Starts.{Child, place_few, emits_narrow, ready_at, child_signal, child_present, child_else, child_sequence, child_then, child_parallel, child_beside, child_loop, child_try}
 use Rattle.lister.proofs.Starts.{list_nothing, list_pause, list_gotopause, list_emit, list_exit, list_loop, list_try, list_then, list_else, list_tested, list_sequence, list_parallel}
+use Rattle.lister.proofs.Rooms.{child_falls, less_room, wide, within_room, changed_child}
 use Rattle.lister.proofs.reacting.+start.Goals as goal
 use Rattle.lister.proofs.reacting.+start.Goals.{then-contains+else-m-ne-OVER, else-contains}
 
@@ -71,8 +72,7 @@ paused-requires-in-2 t c =
 
 pub emitted-requires : goal.emitted-requires
 emitted-requires t c =
-    let kind_is : (n : ℕ) → c.kind_of.result ≡ n → kind_of_node (get_or c.args.nodes.now c.args.at 0) ≡ n = λ n e. sym c.kind_of.ensures ∙ e in
-    (c.requires.0, subst (λ (z : ℕ). z < 32) (sym c.operand_of-operand.ensures) (emits_narrow c.requires.1 (kind_is 3 c.in-3.is)), c.requires.2)
+    (c.requires.0, subst (λ (z : ℕ). z < 32) (sym c.operand_of-operand.ensures) (emits_narrow c.requires.1 (sym c.kind_of.ensures ∙ c.in-3.is)), c.requires.2)
 
 pub left-requires : goal.left-requires
 left-requires t c =
@@ -81,24 +81,16 @@ left-requires t c =
 
 pub named-requires : goal.named-requires
 named-requires t c =
-    let kind_is : (n : ℕ) → c.kind_of.result ≡ n → kind_of_node (get_or c.args.nodes.now c.args.at 0) ≡ n = λ n e. sym c.kind_of.ensures ∙ e in
-    ready_at c.requires.1 (child_signal c.requires.1 (kind_is 5 c.in-5.is))
+    ready_at c.requires.1 (child_signal c.requires.1 (sym c.kind_of.ensures ∙ c.in-5.is))
 
 pub start-requires : goal.start-requires
 start-requires t c =
-    let Below : ℕ → Type 0 = λ i. Child c.requires.1.count c.args.nodes.now c.args.at i in
-    let falls_to : (i : ℕ) → Below i → depth (part_at c.args.nodes.now i) < t = λ i k. omega (arith, c.decreases, k.less) in
-    let kind_is : (n : ℕ) → c.kind_of.result ≡ n → kind_of_node (get_or c.args.nodes.now c.args.at 0) ≡ n = λ n e. sym c.kind_of.ensures ∙ e in
-    (falls_to _ (child_signal c.requires.1 (kind_is 5 c.in-5.is)), (c.requires.0, ready_at c.requires.1 (child_signal c.requires.1 (kind_is 5 c.in-5.is)), c.requires.2))
+    (child_falls c.decreases (child_signal c.requires.1 (sym c.kind_of.ensures ∙ c.in-5.is)), (c.requires.0, ready_at c.requires.1 (child_signal c.requires.1 (sym c.kind_of.ensures ∙ c.in-5.is)), c.requires.2))
 
 pub returns-then-not-named : goal.returns-then-not-named
 returns-then-not-named t c =
-    let Below : ℕ → Type 0 = λ i. Child c.requires.1.count c.args.nodes.now c.args.at i in
-    let less_room : (i : ℕ) → Below i → c.args.base + 128 + room_for (part_at c.args.nodes.now i) ≤ (c.args.base + room_for (part_at c.args.nodes.now c.args.at)) = λ i k. omega (arith, k.less) in
-    let within_room : (i : ℕ) (a b : List ℕ) (n : ℕ) (v : CappedRows) → Below i → Made a b c.args.base (c.args.base + room_for (part_at c.args.nodes.now i)) v n → Made a b c.args.base (c.args.base + room_for (part_at c.args.nodes.now c.args.at)) v n = λ i a b n v k m. made_need (c.args.base + room_for (part_at c.args.nodes.now c.args.at)) m (let h = less_room _ k in omega arith) in
-    let kind_is : (n : ℕ) → c.kind_of.result ≡ n → kind_of_node (get_or c.args.nodes.now c.args.at 0) ≡ n = λ n e. sym c.kind_of.ensures ∙ e in
-    signal_unnamed c.requires.1 (kind_is 5 c.in-5.is) c.operand_of-operand.result c.operand_of-operand.ensures c.args.slotted started c.args.assumed c.args.unknown
-    (sym c.named.ensures ∙ c.if-not-named.true) (within_room _ _ _ _ _ (child_signal c.requires.1 (kind_is 5 c.in-5.is)) c.start.ensures)
+    signal_unnamed c.requires.1 (sym c.kind_of.ensures ∙ c.in-5.is) c.operand_of-operand.result c.operand_of-operand.ensures c.args.slotted started c.args.assumed c.args.unknown
+    (sym c.named.ensures ∙ c.if-not-named.true) (within_room (child_signal c.requires.1 (sym c.kind_of.ensures ∙ c.in-5.is)) c.start.ensures)
 
 pub shape_of-area-then-not-named : goal.shape_of-area-then-not-named
 shape_of-area-then-not-named t c =
@@ -114,17 +106,14 @@ with-more-requires t c =
     below_64
 
 pub start-n-requires : goal.start-n-requires
-start-n-requires t c =
-    let Below : ℕ → Type 0 = λ i. Child c.requires.1.count c.args.nodes.now c.args.at i in
-    let falls_to : (i : ℕ) → Below i → depth (part_at c.args.nodes.now i) < t = λ i k. omega (arith, c.decreases, k.less) in
-    let kind_is : (n : ℕ) → c.kind_of.result ≡ n → kind_of_node (get_or c.args.nodes.now c.args.at 0) ≡ n = λ n e. sym c.kind_of.ensures ∙ e in (
-      falls_to _ (child_signal c.requires.1 (kind_is 5 c.in-5.is)),
-      (
-        c.requires.0,
-        ready_at c.requires.1 (child_signal c.requires.1 (kind_is 5 c.in-5.is)),
-        slotted_more c.operand_of-operand.result c.requires.2 (sym c.contains.ensures ∙ c.if-contains.true) c.with-more.ensures,
-      ),
-    )
+start-n-requires t c = (
+  child_falls c.decreases (child_signal c.requires.1 (sym c.kind_of.ensures ∙ c.in-5.is)),
+  (
+    c.requires.0,
+    ready_at c.requires.1 (child_signal c.requires.1 (sym c.kind_of.ensures ∙ c.in-5.is)),
+    slotted_more c.operand_of-operand.result c.requires.2 (sym c.contains.ensures ∙ c.if-contains.true) c.with-more.ensures,
+  ),
+)
 
 pub slot_of-slot-requires : goal.slot_of-slot-requires
 slot_of-slot-requires t c =
@@ -137,16 +126,10 @@ hide_unknown-m-requires t c =
 
 pub returns-then-m-ne-OVER : goal.returns-then-m-ne-OVER
 returns-then-m-ne-OVER t c =
-    let Below : ℕ → Type 0 = λ i. Child c.requires.1.count c.args.nodes.now c.args.at i in
-    let less_room : (i : ℕ) → Below i → c.args.base + 128 + room_for (part_at c.args.nodes.now i) ≤ (c.args.base + room_for (part_at c.args.nodes.now c.args.at)) = λ i k. omega (arith, k.less) in
-    let within_room : (i : ℕ) (a b : List ℕ) (n : ℕ) (v : CappedRows) → Below i → Made a b c.args.base (c.args.base + room_for (part_at c.args.nodes.now i)) v n → Made a b c.args.base (c.args.base + room_for (part_at c.args.nodes.now c.args.at)) v n = λ i a b n v k m. made_need (c.args.base + room_for (part_at c.args.nodes.now c.args.at)) m (let h = less_room _ k in omega arith) in
-    let changed_child : (i : ℕ) (a b c₂ : List ℕ) (n r : ℕ) (v : CappedRows) → (f : Change) → Below i → Made a b c.args.base (c.args.base + room_for (part_at c.args.nodes.now i)) v n
-    → Altered f b c₂ c.args.base n r → Made a c₂ c.args.base (c.args.base + room_for (part_at c.args.nodes.now c.args.at)) (change_rows (change f) v) r = λ i a b c₂ n r v f k m x. altered f (within_room _ _ _ _ _ k m) x in
-    let kind_is : (n : ℕ) → c.kind_of.result ≡ n → kind_of_node (get_or c.args.nodes.now c.args.at 0) ≡ n = λ n e. sym c.kind_of.ensures ∙ e in
     let is_named : names c.operand_of-operand.result (part_at c.args.nodes.now (c.args.at + 1)) ≡ true = sym c.named.ensures ∙ c.if-not-named.false in
-    signal_tried c.requires.1 (kind_is 5 c.in-5.is) c.operand_of-operand.result c.operand_of-operand.ensures c.args.slotted started c.args.assumed c.args.unknown
+    signal_tried c.requires.1 (sym c.kind_of.ensures ∙ c.in-5.is) c.operand_of-operand.result c.operand_of-operand.ensures c.args.slotted started c.args.assumed c.args.unknown
     (sym c.contains.ensures ∙ c.if-contains.true) c.slot_of-slot.result c.with-more.result c.slot_of-slot.ensures c.with-more.ensures
-    (changed_child _ _ _ _ _ _ _ (Local c.operand_of-operand.result c.slot_of-slot.result) (child_signal c.requires.1 (kind_is 5 c.in-5.is)) c.start-n.ensures c.hide_unknown-m.ensures) is_named c.if-m-ne-OVER.true
+    (changed_child (Local c.operand_of-operand.result c.slot_of-slot.result) (child_signal c.requires.1 (sym c.kind_of.ensures ∙ c.in-5.is)) c.start-n.ensures c.hide_unknown-m.ensures) is_named c.if-m-ne-OVER.true
 
 pub shape_of-area-then-m-ne-OVER : goal.shape_of-area-then-m-ne-OVER
 shape_of-area-then-m-ne-OVER t c =
@@ -154,22 +137,18 @@ shape_of-area-then-m-ne-OVER t c =
 
 pub returns-then-unknown-ne0 : goal.returns-then-unknown-ne0
 returns-then-unknown-ne0 t c =
-    let Below : ℕ → Type 0 = λ i. Child c.requires.1.count c.args.nodes.now c.args.at i in
-    let less_room : (i : ℕ) → Below i → c.args.base + 128 + room_for (part_at c.args.nodes.now i) ≤ (c.args.base + room_for (part_at c.args.nodes.now c.args.at)) = λ i k. omega (arith, k.less) in
-    let within_room : (i : ℕ) (a b : List ℕ) (n : ℕ) (v : CappedRows) → Below i → Made a b c.args.base (c.args.base + room_for (part_at c.args.nodes.now i)) v n → Made a b c.args.base (c.args.base + room_for (part_at c.args.nodes.now c.args.at)) v n = λ i a b n v k m. made_need (c.args.base + room_for (part_at c.args.nodes.now c.args.at)) m (let h = less_room _ k in omega arith) in
-    let changed_child : (i : ℕ) (a b c₂ : List ℕ) (n r : ℕ) (v : CappedRows) → (f : Change) → Below i → Made a b c.args.base (c.args.base + room_for (part_at c.args.nodes.now i)) v n
-    → Altered f b c₂ c.args.base n r → Made a c₂ c.args.base (c.args.base + room_for (part_at c.args.nodes.now c.args.at)) (change_rows (change f) v) r = λ i a b c₂ n r v f k m x. altered f (within_room _ _ _ _ _ k m) x in
-    let kind_is : (n : ℕ) → c.kind_of.result ≡ n → kind_of_node (get_or c.args.nodes.now c.args.at 0) ≡ n = λ n e. sym c.kind_of.ensures ∙ e in
     let is_named : names c.operand_of-operand.result (part_at c.args.nodes.now (c.args.at + 1)) ≡ true = sym c.named.ensures ∙ c.if-not-named.false in
-    let gave : GaveUp c.args.area.now c.if-contains.area c.args.base (attempted c.args.slotted c.operand_of-operand.result (part_at c.args.nodes.now (c.args.at + 1)) started c.args.assumed c.args.unknown) = let up : List ℕ → Type 0 = λ z. GaveUp c.args.area.now z c.args.base (attempted c.args.slotted c.operand_of-operand.result (part_at c.args.nodes.now (c.args.at + 1)) started c.args.assumed c.args.unknown) in
-    let key = (kind_is 5 c.in-5.is) in
+    let gave : GaveUp c.args.area.now c.if-contains.area c.args.base
+    (attempted c.args.slotted c.operand_of-operand.result (part_at c.args.nodes.now (c.args.at + 1)) started c.args.assumed c.args.unknown) =
+    let up : List ℕ → Type 0 = λ z. GaveUp c.args.area.now z c.args.base (attempted c.args.slotted c.operand_of-operand.result (part_at c.args.nodes.now (c.args.at + 1)) started c.args.assumed c.args.unknown) in
+    let key = sym c.kind_of.ensures ∙ c.in-5.is in
     elim c.if-contains.branch [
       | then-contains+else-m-ne-OVER w ↦
           subst up (sym w.area-is) (gave_up c.requires.1 key c.operand_of-operand.result c.operand_of-operand.ensures c.args.slotted started c.args.assumed c.args.unknown (sym c.contains.ensures ∙ w.if-contains.true)
-          w.slot_of-slot.result w.with-more.result w.slot_of-slot.ensures w.with-more.ensures (changed_child _ _ _ _ _ _ _ (Local c.operand_of-operand.result w.slot_of-slot.result) (child_signal c.requires.1 (kind_is 5 c.in-5.is)) w.start-n.ensures w.hide_unknown-m.ensures) w.if-m-ne-OVER.false)
+          w.slot_of-slot.result w.with-more.result w.slot_of-slot.ensures w.with-more.ensures (changed_child (Local c.operand_of-operand.result w.slot_of-slot.result) (child_signal c.requires.1 (sym c.kind_of.ensures ∙ c.in-5.is)) w.start-n.ensures w.hide_unknown-m.ensures) w.if-m-ne-OVER.false)
       | else-contains w ↦ subst up (sym w.area-is) (not_tried c.requires.1 key c.operand_of-operand.result c.operand_of-operand.ensures c.args.slotted started c.args.assumed c.args.unknown c.args.area.now c.args.base (sym c.contains.ensures ∙ w.if-contains.false))
     ] in
-    signal_passed c.requires.1 (kind_is 5 c.in-5.is) c.operand_of-operand.result c.operand_of-operand.ensures c.args.slotted started c.args.assumed c.args.unknown
+    signal_passed c.requires.1 (sym c.kind_of.ensures ∙ c.in-5.is) c.operand_of-operand.result c.operand_of-operand.ensures c.args.slotted started c.args.assumed c.args.unknown
     is_named gave (c.args.base + room_for (part_at c.args.nodes.now c.args.at)) c.if-unknown-ne0.true (start_given_up (part_at c.args.nodes.now (c.args.at + 1)))
 
 pub shape_of-area-then-unknown-ne0 : goal.shape_of-area-then-unknown-ne0
@@ -183,23 +162,18 @@ with-with-requires t c =
 
 pub start-n-requires-in-5 : goal.start-n-requires-in-5
 start-n-requires-in-5 t c =
-    let Below : ℕ → Type 0 = λ i. Child c.requires.1.count c.args.nodes.now c.args.at i in
-    let falls_to : (i : ℕ) → Below i → depth (part_at c.args.nodes.now i) < t = λ i k. omega (arith, c.decreases, k.less) in
-    let less_room : (i : ℕ) → Below i → c.args.base + 128 + room_for (part_at c.args.nodes.now i) ≤ (c.args.base + room_for (part_at c.args.nodes.now c.args.at)) = λ i k. omega (arith, k.less) in
-    let within_room : (i : ℕ) (a b : List ℕ) (n : ℕ) (v : CappedRows) → Below i → Made a b c.args.base (c.args.base + room_for (part_at c.args.nodes.now i)) v n → Made a b c.args.base (c.args.base + room_for (part_at c.args.nodes.now c.args.at)) v n = λ i a b n v k m. made_need (c.args.base + room_for (part_at c.args.nodes.now c.args.at)) m (let h = less_room _ k in omega arith) in
-    let changed_child : (i : ℕ) (a b c₂ : List ℕ) (n r : ℕ) (v : CappedRows) → (f : Change) → Below i → Made a b c.args.base (c.args.base + room_for (part_at c.args.nodes.now i)) v n
-    → Altered f b c₂ c.args.base n r → Made a c₂ c.args.base (c.args.base + room_for (part_at c.args.nodes.now c.args.at)) (change_rows (change f) v) r = λ i a b c₂ n r v f k m x. altered f (within_room _ _ _ _ _ k m) x in
-    let kind_is : (n : ℕ) → c.kind_of.result ≡ n → kind_of_node (get_or c.args.nodes.now c.args.at 0) ≡ n = λ n e. sym c.kind_of.ensures ∙ e in
-    let gave : GaveUp c.args.area.now c.if-contains.area c.args.base (attempted c.args.slotted c.operand_of-operand.result (part_at c.args.nodes.now (c.args.at + 1)) started c.args.assumed c.args.unknown) = let up : List ℕ → Type 0 = λ z. GaveUp c.args.area.now z c.args.base (attempted c.args.slotted c.operand_of-operand.result (part_at c.args.nodes.now (c.args.at + 1)) started c.args.assumed c.args.unknown) in
-    let key = (kind_is 5 c.in-5.is) in
+    let gave : GaveUp c.args.area.now c.if-contains.area c.args.base
+    (attempted c.args.slotted c.operand_of-operand.result (part_at c.args.nodes.now (c.args.at + 1)) started c.args.assumed c.args.unknown) =
+    let up : List ℕ → Type 0 = λ z. GaveUp c.args.area.now z c.args.base (attempted c.args.slotted c.operand_of-operand.result (part_at c.args.nodes.now (c.args.at + 1)) started c.args.assumed c.args.unknown) in
+    let key = sym c.kind_of.ensures ∙ c.in-5.is in
     elim c.if-contains.branch [
       | then-contains+else-m-ne-OVER w ↦
           subst up (sym w.area-is) (gave_up c.requires.1 key c.operand_of-operand.result c.operand_of-operand.ensures c.args.slotted started c.args.assumed c.args.unknown (sym c.contains.ensures ∙ w.if-contains.true)
-          w.slot_of-slot.result w.with-more.result w.slot_of-slot.ensures w.with-more.ensures (changed_child _ _ _ _ _ _ _ (Local c.operand_of-operand.result w.slot_of-slot.result) (child_signal c.requires.1 (kind_is 5 c.in-5.is)) w.start-n.ensures w.hide_unknown-m.ensures) w.if-m-ne-OVER.false)
+          w.slot_of-slot.result w.with-more.result w.slot_of-slot.ensures w.with-more.ensures (changed_child (Local c.operand_of-operand.result w.slot_of-slot.result) (child_signal c.requires.1 (sym c.kind_of.ensures ∙ c.in-5.is)) w.start-n.ensures w.hide_unknown-m.ensures) w.if-m-ne-OVER.false)
       | else-contains w ↦ subst up (sym w.area-is) (not_tried c.requires.1 key c.operand_of-operand.result c.operand_of-operand.ensures c.args.slotted started c.args.assumed c.args.unknown c.args.area.now c.args.base (sym c.contains.ensures ∙ w.if-contains.false))
     ] in
     let still_short : c.args.base ≤ length c.if-contains.area = omega (arith, c.requires.0, gave.same) in
-    (falls_to _ (child_signal c.requires.1 (kind_is 5 c.in-5.is)), (still_short, ready_at c.requires.1 (child_signal c.requires.1 (kind_is 5 c.in-5.is)), slotted_none c.requires.2))
+    (child_falls c.decreases (child_signal c.requires.1 (sym c.kind_of.ensures ∙ c.in-5.is)), (still_short, ready_at c.requires.1 (child_signal c.requires.1 (sym c.kind_of.ensures ∙ c.in-5.is)), slotted_none c.requires.2))
 
 pub hide_signal-n1-requires : goal.hide_signal-n1-requires
 hide_signal-n1-requires t c =
@@ -207,22 +181,18 @@ hide_signal-n1-requires t c =
 
 pub above-top-requires : goal.above-top-requires
 above-top-requires t c =
-    let Below : ℕ → Type 0 = λ i. Child c.requires.1.count c.args.nodes.now c.args.at i in
-    let less_room : (i : ℕ) → Below i → c.args.base + 128 + room_for (part_at c.args.nodes.now i) ≤ (c.args.base + room_for (part_at c.args.nodes.now c.args.at)) = λ i k. omega (arith, k.less) in
-    let within_room : (i : ℕ) (a b : List ℕ) (n : ℕ) (v : CappedRows) → Below i → Made a b c.args.base (c.args.base + room_for (part_at c.args.nodes.now i)) v n → Made a b c.args.base (c.args.base + room_for (part_at c.args.nodes.now c.args.at)) v n = λ i a b n v k m. made_need (c.args.base + room_for (part_at c.args.nodes.now c.args.at)) m (let h = less_room _ k in omega arith) in
-    let changed_child : (i : ℕ) (a b c₂ : List ℕ) (n r : ℕ) (v : CappedRows) → (f : Change) → Below i → Made a b c.args.base (c.args.base + room_for (part_at c.args.nodes.now i)) v n
-    → Altered f b c₂ c.args.base n r → Made a c₂ c.args.base (c.args.base + room_for (part_at c.args.nodes.now c.args.at)) (change_rows (change f) v) r = λ i a b c₂ n r v f k m x. altered f (within_room _ _ _ _ _ k m) x in
-    let kind_is : (n : ℕ) → c.kind_of.result ≡ n → kind_of_node (get_or c.args.nodes.now c.args.at 0) ≡ n = λ n e. sym c.kind_of.ensures ∙ e in
-    let gave : GaveUp c.args.area.now c.if-contains.area c.args.base (attempted c.args.slotted c.operand_of-operand.result (part_at c.args.nodes.now (c.args.at + 1)) started c.args.assumed c.args.unknown) = let up : List ℕ → Type 0 = λ z. GaveUp c.args.area.now z c.args.base (attempted c.args.slotted c.operand_of-operand.result (part_at c.args.nodes.now (c.args.at + 1)) started c.args.assumed c.args.unknown) in
-    let key = (kind_is 5 c.in-5.is) in
+    let gave : GaveUp c.args.area.now c.if-contains.area c.args.base
+    (attempted c.args.slotted c.operand_of-operand.result (part_at c.args.nodes.now (c.args.at + 1)) started c.args.assumed c.args.unknown) =
+    let up : List ℕ → Type 0 = λ z. GaveUp c.args.area.now z c.args.base (attempted c.args.slotted c.operand_of-operand.result (part_at c.args.nodes.now (c.args.at + 1)) started c.args.assumed c.args.unknown) in
+    let key = sym c.kind_of.ensures ∙ c.in-5.is in
     elim c.if-contains.branch [
       | then-contains+else-m-ne-OVER w ↦
           subst up (sym w.area-is) (gave_up c.requires.1 key c.operand_of-operand.result c.operand_of-operand.ensures c.args.slotted started c.args.assumed c.args.unknown (sym c.contains.ensures ∙ w.if-contains.true)
-          w.slot_of-slot.result w.with-more.result w.slot_of-slot.ensures w.with-more.ensures (changed_child _ _ _ _ _ _ _ (Local c.operand_of-operand.result w.slot_of-slot.result) (child_signal c.requires.1 (kind_is 5 c.in-5.is)) w.start-n.ensures w.hide_unknown-m.ensures) w.if-m-ne-OVER.false)
+          w.slot_of-slot.result w.with-more.result w.slot_of-slot.ensures w.with-more.ensures (changed_child (Local c.operand_of-operand.result w.slot_of-slot.result) (child_signal c.requires.1 (sym c.kind_of.ensures ∙ c.in-5.is)) w.start-n.ensures w.hide_unknown-m.ensures) w.if-m-ne-OVER.false)
       | else-contains w ↦ subst up (sym w.area-is) (not_tried c.requires.1 key c.operand_of-operand.result c.operand_of-operand.ensures c.args.slotted started c.args.assumed c.args.unknown c.args.area.now c.args.base (sym c.contains.ensures ∙ w.if-contains.false))
     ] in
     let still_short : c.args.base ≤ length c.if-contains.area = omega (arith, c.requires.0, gave.same) in
-    let m = changed_child _ _ _ _ _ _ _ (Hide c.operand_of-operand.result) (child_signal c.requires.1 (kind_is 5 c.in-5.is)) c.start-n-in-5.ensures c.hide_signal-n1.ensures in
+    let m = changed_child (Hide c.operand_of-operand.result) (child_signal c.requires.1 (sym c.kind_of.ensures ∙ c.in-5.is)) c.start-n-in-5.ensures c.hide_signal-n1.ensures in
     (omega (arith, still_short, m.same), λ h. omega (arith, m.fits h, m.same))
 
 pub without-without-requires : goal.without-without-requires
@@ -231,38 +201,25 @@ without-without-requires t c =
 
 pub start-n2-requires : goal.start-n2-requires
 start-n2-requires t c =
-    let Below : ℕ → Type 0 = λ i. Child c.requires.1.count c.args.nodes.now c.args.at i in
-    let falls_to : (i : ℕ) → Below i → depth (part_at c.args.nodes.now i) < t = λ i k. omega (arith, c.decreases, k.less) in
-    let kind_is : (n : ℕ) → c.kind_of.result ≡ n → kind_of_node (get_or c.args.nodes.now c.args.at 0) ≡ n = λ n e. sym c.kind_of.ensures ∙ e in
-    (falls_to _ (child_signal c.requires.1 (kind_is 5 c.in-5.is)), (c.above-top.ensures.within, ready_at c.requires.1 (child_signal c.requires.1 (kind_is 5 c.in-5.is)), slotted_none c.requires.2))
+    (child_falls c.decreases (child_signal c.requires.1 (sym c.kind_of.ensures ∙ c.in-5.is)), (c.above-top.ensures.within, ready_at c.requires.1 (child_signal c.requires.1 (sym c.kind_of.ensures ∙ c.in-5.is)), slotted_none c.requires.2))
 
 pub either-requires : goal.either-requires
 either-requires t c =
-    let Below : ℕ → Type 0 = λ i. Child c.requires.1.count c.args.nodes.now c.args.at i in
-    let less_room : (i : ℕ) → Below i → c.args.base + 128 + room_for (part_at c.args.nodes.now i) ≤ (c.args.base + room_for (part_at c.args.nodes.now c.args.at)) = λ i k. omega (arith, k.less) in
-    let wide : (i : ℕ) → Below i → c.args.base + 386 ≤ (c.args.base + room_for (part_at c.args.nodes.now c.args.at)) = λ i k. omega (arith, k.less, depth_positive (part_at c.args.nodes.now i)) in
-    let within_room : (i : ℕ) (a b : List ℕ) (n : ℕ) (v : CappedRows) → Below i → Made a b c.args.base (c.args.base + room_for (part_at c.args.nodes.now i)) v n → Made a b c.args.base (c.args.base + room_for (part_at c.args.nodes.now c.args.at)) v n = λ i a b n v k m. made_need (c.args.base + room_for (part_at c.args.nodes.now c.args.at)) m (let h = less_room _ k in omega arith) in
-    let changed_child : (i : ℕ) (a b c₂ : List ℕ) (n r : ℕ) (v : CappedRows) → (f : Change) → Below i → Made a b c.args.base (c.args.base + room_for (part_at c.args.nodes.now i)) v n
-    → Altered f b c₂ c.args.base n r → Made a c₂ c.args.base (c.args.base + room_for (part_at c.args.nodes.now c.args.at)) (change_rows (change f) v) r = λ i a b c₂ n r v f k m x. altered f (within_room _ _ _ _ _ k m) x in
-    let kind_is : (n : ℕ) → c.kind_of.result ≡ n → kind_of_node (get_or c.args.nodes.now c.args.at 0) ≡ n = λ n e. sym c.kind_of.ensures ∙ e in
-    let b = (child_signal c.requires.1 (kind_is 5 c.in-5.is)) in
-    let m = changed_child _ _ _ _ _ _ _ (Hide c.operand_of-operand.result) b c.start-n-in-5.ensures c.hide_signal-n1.ensures in
-    beside_top m c.above-top.ensures (wide _ b) c.start-n2.ensures (λ h e. let z = less_room _ b in omega arith)
+    let b = (child_signal c.requires.1 (sym c.kind_of.ensures ∙ c.in-5.is)) in
+    let m = changed_child (Hide c.operand_of-operand.result) b c.start-n-in-5.ensures c.hide_signal-n1.ensures in
+    beside_top m c.above-top.ensures (wide c.args.base b) c.start-n2.ensures (λ h e. let z = less_room c.args.base b in omega arith)
 
 pub offset_bounds-ends-first : goal.offset_bounds-ends-first
 offset_bounds-ends-first t c =
-    let kind_is : (n : ℕ) → c.kind_of.result ≡ n → kind_of_node (get_or c.args.nodes.now c.args.at 0) ≡ n = λ n e. sym c.kind_of.ensures ∙ e in
-    omega (arith, place_few (ready_at c.requires.1 (child_present c.requires.1 (kind_is 6 c.in-6.is))))
+    omega (arith, place_few (ready_at c.requires.1 (child_present c.requires.1 (sym c.kind_of.ensures ∙ c.in-6.is))))
 
 pub bounds-ends-first : goal.bounds-ends-first
 bounds-ends-first t c =
-    let kind_is : (n : ℕ) → c.kind_of.result ≡ n → kind_of_node (get_or c.args.nodes.now c.args.at 0) ≡ n = λ n e. sym c.kind_of.ensures ∙ e in
-    place_few (ready_at c.requires.1 (child_present c.requires.1 (kind_is 6 c.in-6.is)))
+    place_few (ready_at c.requires.1 (child_present c.requires.1 (sym c.kind_of.ensures ∙ c.in-6.is)))
 
 pub overflow_cast-second : goal.overflow_cast-second
 overflow_cast-second t c =
-    let kind_is : (n : ℕ) → c.kind_of.result ≡ n → kind_of_node (get_or c.args.nodes.now c.args.at 0) ≡ n = λ n e. sym c.kind_of.ensures ∙ e in
-    omega (arith, place_few (ready_at c.requires.1 (child_else c.requires.1 (get_or c.args.ends.now (c.args.at + 1) 0) refl (kind_is 6 c.in-6.is))))
+    omega (arith, place_few (ready_at c.requires.1 (child_else c.requires.1 (get_or c.args.ends.now (c.args.at + 1) 0) refl (sym c.kind_of.ensures ∙ c.in-6.is))))
 
 pub contains-requires-in-6 : goal.contains-requires-in-6
 contains-requires-in-6 t c =
@@ -275,10 +232,7 @@ slot_of-slot-requires-then-contains-2 t c =
 
 pub start-n-requires-then-contains-2 : goal.start-n-requires-then-contains-2
 start-n-requires-then-contains-2 t c =
-    let Below : ℕ → Type 0 = λ i. Child c.requires.1.count c.args.nodes.now c.args.at i in
-    let falls_to : (i : ℕ) → Below i → depth (part_at c.args.nodes.now i) < t = λ i k. omega (arith, c.decreases, k.less) in
-    let kind_is : (n : ℕ) → c.kind_of.result ≡ n → kind_of_node (get_or c.args.nodes.now c.args.at 0) ≡ n = λ n e. sym c.kind_of.ensures ∙ e in
-    (falls_to _ (child_present c.requires.1 (kind_is 6 c.in-6.is)), (c.requires.0, ready_at c.requires.1 (child_present c.requires.1 (kind_is 6 c.in-6.is)), c.requires.2))
+    (child_falls c.decreases (child_present c.requires.1 (sym c.kind_of.ensures ∙ c.in-6.is)), (c.requires.0, ready_at c.requires.1 (child_present c.requires.1 (sym c.kind_of.ensures ∙ c.in-6.is)), c.requires.2))
 
 pub on_slot-requires : goal.on_slot-requires
 on_slot-requires t c =
@@ -292,21 +246,14 @@ add_condition-n1-requires t c =
 
 pub above-top-requires-then-contains-2 : goal.above-top-requires-then-contains-2
 above-top-requires-then-contains-2 t c =
-    let Below : ℕ → Type 0 = λ i. Child c.requires.1.count c.args.nodes.now c.args.at i in
-    let less_room : (i : ℕ) → Below i → c.args.base + 128 + room_for (part_at c.args.nodes.now i) ≤ (c.args.base + room_for (part_at c.args.nodes.now c.args.at)) = λ i k. omega (arith, k.less) in
-    let within_room : (i : ℕ) (a b : List ℕ) (n : ℕ) (v : CappedRows) → Below i → Made a b c.args.base (c.args.base + room_for (part_at c.args.nodes.now i)) v n → Made a b c.args.base (c.args.base + room_for (part_at c.args.nodes.now c.args.at)) v n = λ i a b n v k m. made_need (c.args.base + room_for (part_at c.args.nodes.now c.args.at)) m (let h = less_room _ k in omega arith) in
-    let changed_child : (i : ℕ) (a b c₂ : List ℕ) (n r : ℕ) (v : CappedRows) → (f : Change) → Below i → Made a b c.args.base (c.args.base + room_for (part_at c.args.nodes.now i)) v n
-    → Altered f b c₂ c.args.base n r → Made a c₂ c.args.base (c.args.base + room_for (part_at c.args.nodes.now c.args.at)) (change_rows (change f) v) r = λ i a b c₂ n r v f k m x. altered f (within_room _ _ _ _ _ k m) x in
-    let kind_is : (n : ℕ) → c.kind_of.result ≡ n → kind_of_node (get_or c.args.nodes.now c.args.at 0) ≡ n = λ n e. sym c.kind_of.ensures ∙ e in
-    let m = changed_child _ _ _ _ _ _ _ (Given c.on_slot.result) (child_present c.requires.1 (kind_is 6 c.in-6.is)) c.start-n-then-contains-2.ensures c.add_condition-n1.ensures in
+    let m = changed_child (Given c.on_slot.result) (child_present c.requires.1 (sym c.kind_of.ensures ∙ c.in-6.is)) c.start-n-then-contains-2.ensures c.add_condition-n1.ensures in
     (omega (arith, c.requires.0, m.same), λ h. omega (arith, m.fits h, m.same))
 
 pub start-m-requires : goal.start-m-requires
-start-m-requires t c =
-    let Below : ℕ → Type 0 = λ i. Child c.requires.1.count c.args.nodes.now c.args.at i in
-    let falls_to : (i : ℕ) → Below i → depth (part_at c.args.nodes.now i) < t = λ i k. omega (arith, c.decreases, k.less) in
-    let kind_is : (n : ℕ) → c.kind_of.result ≡ n → kind_of_node (get_or c.args.nodes.now c.args.at 0) ≡ n = λ n e. sym c.kind_of.ensures ∙ e in
-    (falls_to _ (child_else c.requires.1 (get_or c.args.ends.now (c.args.at + 1) 0) refl (kind_is 6 c.in-6.is)), (c.above-top-then-contains-2.ensures.within, ready_at c.requires.1 (child_else c.requires.1 (get_or c.args.ends.now (c.args.at + 1) 0) refl (kind_is 6 c.in-6.is)), c.requires.2))
+start-m-requires t c = (
+  child_falls c.decreases (child_else c.requires.1 (get_or c.args.ends.now (c.args.at + 1) 0) refl (sym c.kind_of.ensures ∙ c.in-6.is)),
+  (c.above-top-then-contains-2.ensures.within, ready_at c.requires.1 (child_else c.requires.1 (get_or c.args.ends.now (c.args.at + 1) 0) refl (sym c.kind_of.ensures ∙ c.in-6.is)), c.requires.2),
+)
 
 pub off_slot-requires : goal.off_slot-requires
 off_slot-requires t c =
@@ -320,30 +267,18 @@ add_condition-n2-requires t c =
 
 pub either-requires-then-contains-2 : goal.either-requires-then-contains-2
 either-requires-then-contains-2 t c =
-    let Below : ℕ → Type 0 = λ i. Child c.requires.1.count c.args.nodes.now c.args.at i in
-    let less_room : (i : ℕ) → Below i → c.args.base + 128 + room_for (part_at c.args.nodes.now i) ≤ (c.args.base + room_for (part_at c.args.nodes.now c.args.at)) = λ i k. omega (arith, k.less) in
-    let wide : (i : ℕ) → Below i → c.args.base + 386 ≤ (c.args.base + room_for (part_at c.args.nodes.now c.args.at)) = λ i k. omega (arith, k.less, depth_positive (part_at c.args.nodes.now i)) in
-    let within_room : (i : ℕ) (a b : List ℕ) (n : ℕ) (v : CappedRows) → Below i → Made a b c.args.base (c.args.base + room_for (part_at c.args.nodes.now i)) v n → Made a b c.args.base (c.args.base + room_for (part_at c.args.nodes.now c.args.at)) v n = λ i a b n v k m. made_need (c.args.base + room_for (part_at c.args.nodes.now c.args.at)) m (let h = less_room _ k in omega arith) in
-    let changed_child : (i : ℕ) (a b c₂ : List ℕ) (n r : ℕ) (v : CappedRows) → (f : Change) → Below i → Made a b c.args.base (c.args.base + room_for (part_at c.args.nodes.now i)) v n
-    → Altered f b c₂ c.args.base n r → Made a c₂ c.args.base (c.args.base + room_for (part_at c.args.nodes.now c.args.at)) (change_rows (change f) v) r = λ i a b c₂ n r v f k m x. altered f (within_room _ _ _ _ _ k m) x in
-    let kind_is : (n : ℕ) → c.kind_of.result ≡ n → kind_of_node (get_or c.args.nodes.now c.args.at 0) ≡ n = λ n e. sym c.kind_of.ensures ∙ e in
-    let m = changed_child _ _ _ _ _ _ _ (Given c.on_slot.result) (child_present c.requires.1 (kind_is 6 c.in-6.is)) c.start-n-then-contains-2.ensures c.add_condition-n1.ensures in
-    beside_top m c.above-top-then-contains-2.ensures (wide _ (child_present c.requires.1 (kind_is 6 c.in-6.is))) (altered (Given c.off_slot.result) c.start-m.ensures c.add_condition-n2.ensures) (λ h e. let z = less_room _ (child_else c.requires.1 (get_or c.args.ends.now (c.args.at + 1) 0) refl (kind_is 6 c.in-6.is)) in omega arith)
+    let m = changed_child (Given c.on_slot.result) (child_present c.requires.1 (sym c.kind_of.ensures ∙ c.in-6.is)) c.start-n-then-contains-2.ensures c.add_condition-n1.ensures in
+    beside_top m c.above-top-then-contains-2.ensures (wide c.args.base (child_present c.requires.1 (sym c.kind_of.ensures ∙ c.in-6.is))) (altered (Given c.off_slot.result) c.start-m.ensures c.add_condition-n2.ensures)
+    (λ h e. let z = less_room c.args.base (child_else c.requires.1 (get_or c.args.ends.now (c.args.at + 1) 0) refl (sym c.kind_of.ensures ∙ c.in-6.is)) in omega arith)
 
 pub returns-then-contains-2 : goal.returns-then-contains-2
 returns-then-contains-2 t c =
-    let Below : ℕ → Type 0 = λ i. Child c.requires.1.count c.args.nodes.now c.args.at i in
-    let less_room : (i : ℕ) → Below i → c.args.base + 128 + room_for (part_at c.args.nodes.now i) ≤ (c.args.base + room_for (part_at c.args.nodes.now c.args.at)) = λ i k. omega (arith, k.less) in
-    let wide : (i : ℕ) → Below i → c.args.base + 386 ≤ (c.args.base + room_for (part_at c.args.nodes.now c.args.at)) = λ i k. omega (arith, k.less, depth_positive (part_at c.args.nodes.now i)) in
-    let within_room : (i : ℕ) (a b : List ℕ) (n : ℕ) (v : CappedRows) → Below i → Made a b c.args.base (c.args.base + room_for (part_at c.args.nodes.now i)) v n → Made a b c.args.base (c.args.base + room_for (part_at c.args.nodes.now c.args.at)) v n = λ i a b n v k m. made_need (c.args.base + room_for (part_at c.args.nodes.now c.args.at)) m (let h = less_room _ k in omega arith) in
-    let changed_child : (i : ℕ) (a b c₂ : List ℕ) (n r : ℕ) (v : CappedRows) → (f : Change) → Below i → Made a b c.args.base (c.args.base + room_for (part_at c.args.nodes.now i)) v n
-    → Altered f b c₂ c.args.base n r → Made a c₂ c.args.base (c.args.base + room_for (part_at c.args.nodes.now c.args.at)) (change_rows (change f) v) r = λ i a b c₂ n r v f k m x. altered f (within_room _ _ _ _ _ k m) x in
-    let kind_is : (n : ℕ) → c.kind_of.result ≡ n → kind_of_node (get_or c.args.nodes.now c.args.at 0) ≡ n = λ n e. sym c.kind_of.ensures ∙ e in
     let is_unknown : has c.args.unknown c.operand_of-operand.result ≡ true = sym c.contains-in-6.ensures ∙ c.if-contains-2.true in
-    let m = changed_child _ _ _ _ _ _ _ (Given c.on_slot.result) (child_present c.requires.1 (kind_is 6 c.in-6.is)) c.start-n-then-contains-2.ensures c.add_condition-n1.ensures in
-    list_tested c.requires.1 c.args.slotted c.args.assumed c.args.unknown (get_or c.args.ends.now (c.args.at + 1) 0) refl (kind_is 6 c.in-6.is) c.operand_of-operand.result c.operand_of-operand.ensures is_unknown
+    let m = changed_child (Given c.on_slot.result) (child_present c.requires.1 (sym c.kind_of.ensures ∙ c.in-6.is)) c.start-n-then-contains-2.ensures c.add_condition-n1.ensures in
+    list_tested c.requires.1 c.args.slotted c.args.assumed c.args.unknown (get_or c.args.ends.now (c.args.at + 1) 0) refl (sym c.kind_of.ensures ∙ c.in-6.is) c.operand_of-operand.result c.operand_of-operand.ensures is_unknown
     c.slot_of-slot-then-contains-2.result c.on_slot.result c.off_slot.result c.slot_of-slot-then-contains-2.ensures c.on_slot.ensures.1 c.off_slot.ensures
-    (joined m c.above-top-then-contains-2.ensures (wide _ (child_present c.requires.1 (kind_is 6 c.in-6.is))) ◌++◌ (altered (Given c.off_slot.result) c.start-m.ensures c.add_condition-n2.ensures) (λ h e. let z = less_room _ (child_else c.requires.1 (get_or c.args.ends.now (c.args.at + 1) 0) refl (kind_is 6 c.in-6.is)) in omega arith)
+    (joined m c.above-top-then-contains-2.ensures (wide c.args.base (child_present c.requires.1 (sym c.kind_of.ensures ∙ c.in-6.is))) ◌++◌ (altered (Given c.off_slot.result) c.start-m.ensures c.add_condition-n2.ensures)
+    (λ h e. let z = less_room c.args.base (child_else c.requires.1 (get_or c.args.ends.now (c.args.at + 1) 0) refl (sym c.kind_of.ensures ∙ c.in-6.is)) in omega arith)
     c.requires.0 c.either-then-contains-2.ensures)
 
 pub shape_of-area-then-contains-2 : goal.shape_of-area-then-contains-2
@@ -356,37 +291,26 @@ contains-requires-in-6-2 t c =
 
 pub start-requires-then-contains-3 : goal.start-requires-then-contains-3
 start-requires-then-contains-3 t c =
-    let Below : ℕ → Type 0 = λ i. Child c.requires.1.count c.args.nodes.now c.args.at i in
-    let falls_to : (i : ℕ) → Below i → depth (part_at c.args.nodes.now i) < t = λ i k. omega (arith, c.decreases, k.less) in
-    let kind_is : (n : ℕ) → c.kind_of.result ≡ n → kind_of_node (get_or c.args.nodes.now c.args.at 0) ≡ n = λ n e. sym c.kind_of.ensures ∙ e in
-    (falls_to _ (child_present c.requires.1 (kind_is 6 c.in-6.is)), (c.requires.0, ready_at c.requires.1 (child_present c.requires.1 (kind_is 6 c.in-6.is)), c.requires.2))
+    (child_falls c.decreases (child_present c.requires.1 (sym c.kind_of.ensures ∙ c.in-6.is)), (c.requires.0, ready_at c.requires.1 (child_present c.requires.1 (sym c.kind_of.ensures ∙ c.in-6.is)), c.requires.2))
 
 pub returns-then-contains-3 : goal.returns-then-contains-3
 returns-then-contains-3 t c =
-    let Below : ℕ → Type 0 = λ i. Child c.requires.1.count c.args.nodes.now c.args.at i in
-    let less_room : (i : ℕ) → Below i → c.args.base + 128 + room_for (part_at c.args.nodes.now i) ≤ (c.args.base + room_for (part_at c.args.nodes.now c.args.at)) = λ i k. omega (arith, k.less) in
-    let within_room : (i : ℕ) (a b : List ℕ) (n : ℕ) (v : CappedRows) → Below i → Made a b c.args.base (c.args.base + room_for (part_at c.args.nodes.now i)) v n → Made a b c.args.base (c.args.base + room_for (part_at c.args.nodes.now c.args.at)) v n = λ i a b n v k m. made_need (c.args.base + room_for (part_at c.args.nodes.now c.args.at)) m (let h = less_room _ k in omega arith) in
-    let kind_is : (n : ℕ) → c.kind_of.result ≡ n → kind_of_node (get_or c.args.nodes.now c.args.at 0) ≡ n = λ n e. sym c.kind_of.ensures ∙ e in
-    list_then c.requires.1 c.args.slotted c.args.assumed c.args.unknown (get_or c.args.ends.now (c.args.at + 1) 0) refl (kind_is 6 c.in-6.is) c.operand_of-operand.result c.operand_of-operand.ensures
-    (sym c.contains-in-6.ensures ∙ c.if-contains-2.false) (sym c.contains-in-6-2.ensures ∙ c.if-contains-3.true) (within_room _ _ _ _ _ (child_present c.requires.1 (kind_is 6 c.in-6.is)) c.start-then-contains-3.ensures)
+    list_then c.requires.1 c.args.slotted c.args.assumed c.args.unknown (get_or c.args.ends.now (c.args.at + 1) 0) refl (sym c.kind_of.ensures ∙ c.in-6.is) c.operand_of-operand.result c.operand_of-operand.ensures
+    (sym c.contains-in-6.ensures ∙ c.if-contains-2.false) (sym c.contains-in-6-2.ensures ∙ c.if-contains-3.true) (within_room (child_present c.requires.1 (sym c.kind_of.ensures ∙ c.in-6.is)) c.start-then-contains-3.ensures)
 
 pub shape_of-area-then-contains-3 : goal.shape_of-area-then-contains-3
 shape_of-area-then-contains-3 t c =
     (returns-then-contains-3 t c).same
 
 pub start-requires-in-6 : goal.start-requires-in-6
-start-requires-in-6 t c =
-    let Below : ℕ → Type 0 = λ i. Child c.requires.1.count c.args.nodes.now c.args.at i in
-    let falls_to : (i : ℕ) → Below i → depth (part_at c.args.nodes.now i) < t = λ i k. omega (arith, c.decreases, k.less) in
-    let kind_is : (n : ℕ) → c.kind_of.result ≡ n → kind_of_node (get_or c.args.nodes.now c.args.at 0) ≡ n = λ n e. sym c.kind_of.ensures ∙ e in
-    (falls_to _ (child_else c.requires.1 (get_or c.args.ends.now (c.args.at + 1) 0) refl (kind_is 6 c.in-6.is)), (c.requires.0, ready_at c.requires.1 (child_else c.requires.1 (get_or c.args.ends.now (c.args.at + 1) 0) refl (kind_is 6 c.in-6.is)), c.requires.2))
+start-requires-in-6 t c = (
+  child_falls c.decreases (child_else c.requires.1 (get_or c.args.ends.now (c.args.at + 1) 0) refl (sym c.kind_of.ensures ∙ c.in-6.is)),
+  (c.requires.0, ready_at c.requires.1 (child_else c.requires.1 (get_or c.args.ends.now (c.args.at + 1) 0) refl (sym c.kind_of.ensures ∙ c.in-6.is)), c.requires.2),
+)
 
 pub start-n1-requires : goal.start-n1-requires
 start-n1-requires t c =
-    let Below : ℕ → Type 0 = λ i. Child c.requires.1.count c.args.nodes.now c.args.at i in
-    let falls_to : (i : ℕ) → Below i → depth (part_at c.args.nodes.now i) < t = λ i k. omega (arith, c.decreases, k.less) in
-    let kind_is : (n : ℕ) → c.kind_of.result ≡ n → kind_of_node (get_or c.args.nodes.now c.args.at 0) ≡ n = λ n e. sym c.kind_of.ensures ∙ e in
-    (falls_to _ (child_sequence c.requires.1 (kind_is 7 c.in-7.is)), (c.requires.0, ready_at c.requires.1 (child_sequence c.requires.1 (kind_is 7 c.in-7.is)), c.requires.2))
+    (child_falls c.decreases (child_sequence c.requires.1 (sym c.kind_of.ensures ∙ c.in-7.is)), (c.requires.0, ready_at c.requires.1 (child_sequence c.requires.1 (sym c.kind_of.ensures ∙ c.in-7.is)), c.requires.2))
 
 pub some_ends-requires : goal.some_ends-requires
 some_ends-requires t c =
@@ -394,12 +318,8 @@ some_ends-requires t c =
 
 pub returns-then-not-some_ends : goal.returns-then-not-some_ends
 returns-then-not-some_ends t c =
-    let Below : ℕ → Type 0 = λ i. Child c.requires.1.count c.args.nodes.now c.args.at i in
-    let less_room : (i : ℕ) → Below i → c.args.base + 128 + room_for (part_at c.args.nodes.now i) ≤ (c.args.base + room_for (part_at c.args.nodes.now c.args.at)) = λ i k. omega (arith, k.less) in
-    let within_room : (i : ℕ) (a b : List ℕ) (n : ℕ) (v : CappedRows) → Below i → Made a b c.args.base (c.args.base + room_for (part_at c.args.nodes.now i)) v n → Made a b c.args.base (c.args.base + room_for (part_at c.args.nodes.now c.args.at)) v n = λ i a b n v k m. made_need (c.args.base + room_for (part_at c.args.nodes.now c.args.at)) m (let h = less_room _ k in omega arith) in
-    let kind_is : (n : ℕ) → c.kind_of.result ≡ n → kind_of_node (get_or c.args.nodes.now c.args.at 0) ≡ n = λ n e. sym c.kind_of.ensures ∙ e in
-    list_sequence c.requires.1 c.args.slotted c.args.assumed c.args.unknown (get_or c.args.ends.now (c.args.at + 1) 0) refl (kind_is 7 c.in-7.is)
-    (followed_not (within_room _ _ _ _ _ (child_sequence c.requires.1 (kind_is 7 c.in-7.is)) c.start-n1.ensures) _ c.some_ends.ensures c.if-not-some_ends.true)
+    list_sequence c.requires.1 c.args.slotted c.args.assumed c.args.unknown (get_or c.args.ends.now (c.args.at + 1) 0) refl (sym c.kind_of.ensures ∙ c.in-7.is)
+    (followed_not (within_room (child_sequence c.requires.1 (sym c.kind_of.ensures ∙ c.in-7.is)) c.start-n1.ensures) _ c.some_ends.ensures c.if-not-some_ends.true)
 
 pub shape_of-area-then-not-some_ends : goal.shape_of-area-then-not-some_ends
 shape_of-area-then-not-some_ends t c =
@@ -407,18 +327,15 @@ shape_of-area-then-not-some_ends t c =
 
 pub offset_bounds-ends-first-in-7 : goal.offset_bounds-ends-first-in-7
 offset_bounds-ends-first-in-7 t c =
-    let kind_is : (n : ℕ) → c.kind_of.result ≡ n → kind_of_node (get_or c.args.nodes.now c.args.at 0) ≡ n = λ n e. sym c.kind_of.ensures ∙ e in
-    omega (arith, place_few (ready_at c.requires.1 (child_sequence c.requires.1 (kind_is 7 c.in-7.is))))
+    omega (arith, place_few (ready_at c.requires.1 (child_sequence c.requires.1 (sym c.kind_of.ensures ∙ c.in-7.is))))
 
 pub bounds-ends-first-in-7 : goal.bounds-ends-first-in-7
 bounds-ends-first-in-7 t c =
-    let kind_is : (n : ℕ) → c.kind_of.result ≡ n → kind_of_node (get_or c.args.nodes.now c.args.at 0) ≡ n = λ n e. sym c.kind_of.ensures ∙ e in
-    place_few (ready_at c.requires.1 (child_sequence c.requires.1 (kind_is 7 c.in-7.is)))
+    place_few (ready_at c.requires.1 (child_sequence c.requires.1 (sym c.kind_of.ensures ∙ c.in-7.is)))
 
 pub overflow_cast-second-in-7 : goal.overflow_cast-second-in-7
 overflow_cast-second-in-7 t c =
-    let kind_is : (n : ℕ) → c.kind_of.result ≡ n → kind_of_node (get_or c.args.nodes.now c.args.at 0) ≡ n = λ n e. sym c.kind_of.ensures ∙ e in
-    omega (arith, place_few (ready_at c.requires.1 (child_then c.requires.1 (get_or c.args.ends.now (c.args.at + 1) 0) refl (kind_is 7 c.in-7.is))))
+    omega (arith, place_few (ready_at c.requires.1 (child_then c.requires.1 (get_or c.args.ends.now (c.args.at + 1) 0) refl (sym c.kind_of.ensures ∙ c.in-7.is))))
 
 pub overflow_mul-top : goal.overflow_mul-top
 overflow_mul-top t c =
@@ -435,71 +352,53 @@ overflow_add-top t c =
 
 pub start-n2-requires-in-7 : goal.start-n2-requires-in-7
 start-n2-requires-in-7 t c =
-    let Below : ℕ → Type 0 = λ i. Child c.requires.1.count c.args.nodes.now c.args.at i in
-    let falls_to : (i : ℕ) → Below i → depth (part_at c.args.nodes.now i) < t = λ i k. omega (arith, c.decreases, k.less) in
-    let kind_is : (n : ℕ) → c.kind_of.result ≡ n → kind_of_node (get_or c.args.nodes.now c.args.at 0) ≡ n = λ n e. sym c.kind_of.ensures ∙ e in
     let some_end : c.some_ends.result ≡ true = c.if-not-some_ends.false in
-    let few : c.start-n1.result ≤ 64 = ending_small c.some_ends.ensures.1 some_end in
-    (falls_to _ (child_then c.requires.1 (get_or c.args.ends.now (c.args.at + 1) 0) refl (kind_is 7 c.in-7.is)), (omega (arith, few, c.start-n1.ensures.fits few, c.start-n1.ensures.same), ready_at c.requires.1 (child_then c.requires.1 (get_or c.args.ends.now (c.args.at + 1) 0) refl (kind_is 7 c.in-7.is)), c.requires.2))
+    let few : c.start-n1.result ≤ 64 = ending_small c.some_ends.ensures.1 some_end in (
+      child_falls c.decreases (child_then c.requires.1 (get_or c.args.ends.now (c.args.at + 1) 0) refl (sym c.kind_of.ensures ∙ c.in-7.is)),
+      (omega (arith, few, c.start-n1.ensures.fits few, c.start-n1.ensures.same), ready_at c.requires.1 (child_then c.requires.1 (get_or c.args.ends.now (c.args.at + 1) 0) refl (sym c.kind_of.ensures ∙ c.in-7.is)), c.requires.2),
+    )
 
 pub product-requires : goal.product-requires
 product-requires t c =
-    let Below : ℕ → Type 0 = λ i. Child c.requires.1.count c.args.nodes.now c.args.at i in
-    let less_room : (i : ℕ) → Below i → c.args.base + 128 + room_for (part_at c.args.nodes.now i) ≤ (c.args.base + room_for (part_at c.args.nodes.now c.args.at)) = λ i k. omega (arith, k.less) in
-    let within_room : (i : ℕ) (a b : List ℕ) (n : ℕ) (v : CappedRows) → Below i → Made a b c.args.base (c.args.base + room_for (part_at c.args.nodes.now i)) v n → Made a b c.args.base (c.args.base + room_for (part_at c.args.nodes.now c.args.at)) v n = λ i a b n v k m. made_need (c.args.base + room_for (part_at c.args.nodes.now c.args.at)) m (let h = less_room _ k in omega arith) in
-    let kind_is : (n : ℕ) → c.kind_of.result ≡ n → kind_of_node (get_or c.args.nodes.now c.args.at 0) ≡ n = λ n e. sym c.kind_of.ensures ∙ e in
     let some_end : c.some_ends.result ≡ true = c.if-not-some_ends.false in
     let few : c.start-n1.result ≤ 64 = ending_small c.some_ends.ensures.1 some_end in
-    beside (within_room _ _ _ _ _ (child_sequence c.requires.1 (kind_is 7 c.in-7.is)) c.start-n1.ensures) few (made_need (c.args.base + room_for (part_at c.args.nodes.now c.args.at)) c.start-n2-in-7.ensures (omega (arith, less_room _ (child_then c.requires.1 (get_or c.args.ends.now (c.args.at + 1) 0) refl (kind_is 7 c.in-7.is)), few)))
+    beside (within_room (child_sequence c.requires.1 (sym c.kind_of.ensures ∙ c.in-7.is)) c.start-n1.ensures) few (made_need (c.args.base + room_for (part_at c.args.nodes.now c.args.at)) c.start-n2-in-7.ensures
+    (omega (arith, less_room c.args.base (child_then c.requires.1 (get_or c.args.ends.now (c.args.at + 1) 0) refl (sym c.kind_of.ensures ∙ c.in-7.is)), few)))
 
 pub offset_bounds-ends-first-in-8 : goal.offset_bounds-ends-first-in-8
 offset_bounds-ends-first-in-8 t c =
-    let kind_is : (n : ℕ) → c.kind_of.result ≡ n → kind_of_node (get_or c.args.nodes.now c.args.at 0) ≡ n = λ n e. sym c.kind_of.ensures ∙ e in
-    omega (arith, place_few (ready_at c.requires.1 (child_parallel c.requires.1 (kind_is 8 c.in-8.is))))
+    omega (arith, place_few (ready_at c.requires.1 (child_parallel c.requires.1 (sym c.kind_of.ensures ∙ c.in-8.is))))
 
 pub bounds-ends-first-in-8 : goal.bounds-ends-first-in-8
 bounds-ends-first-in-8 t c =
-    let kind_is : (n : ℕ) → c.kind_of.result ≡ n → kind_of_node (get_or c.args.nodes.now c.args.at 0) ≡ n = λ n e. sym c.kind_of.ensures ∙ e in
-    place_few (ready_at c.requires.1 (child_parallel c.requires.1 (kind_is 8 c.in-8.is)))
+    place_few (ready_at c.requires.1 (child_parallel c.requires.1 (sym c.kind_of.ensures ∙ c.in-8.is)))
 
 pub overflow_cast-second-in-8 : goal.overflow_cast-second-in-8
 overflow_cast-second-in-8 t c =
-    let kind_is : (n : ℕ) → c.kind_of.result ≡ n → kind_of_node (get_or c.args.nodes.now c.args.at 0) ≡ n = λ n e. sym c.kind_of.ensures ∙ e in
-    omega (arith, place_few (ready_at c.requires.1 (child_beside c.requires.1 (get_or c.args.ends.now (c.args.at + 1) 0) refl (kind_is 8 c.in-8.is))))
+    omega (arith, place_few (ready_at c.requires.1 (child_beside c.requires.1 (get_or c.args.ends.now (c.args.at + 1) 0) refl (sym c.kind_of.ensures ∙ c.in-8.is))))
 
 pub start-n1-requires-in-8 : goal.start-n1-requires-in-8
 start-n1-requires-in-8 t c =
-    let Below : ℕ → Type 0 = λ i. Child c.requires.1.count c.args.nodes.now c.args.at i in
-    let falls_to : (i : ℕ) → Below i → depth (part_at c.args.nodes.now i) < t = λ i k. omega (arith, c.decreases, k.less) in
-    let kind_is : (n : ℕ) → c.kind_of.result ≡ n → kind_of_node (get_or c.args.nodes.now c.args.at 0) ≡ n = λ n e. sym c.kind_of.ensures ∙ e in
-    (falls_to _ (child_parallel c.requires.1 (kind_is 8 c.in-8.is)), (c.requires.0, ready_at c.requires.1 (child_parallel c.requires.1 (kind_is 8 c.in-8.is)), c.requires.2))
+    (child_falls c.decreases (child_parallel c.requires.1 (sym c.kind_of.ensures ∙ c.in-8.is)), (c.requires.0, ready_at c.requires.1 (child_parallel c.requires.1 (sym c.kind_of.ensures ∙ c.in-8.is)), c.requires.2))
 
 pub above-top-requires-in-8 : goal.above-top-requires-in-8
 above-top-requires-in-8 t c =
     (omega (arith, c.requires.0, c.start-n1-in-8.ensures.same), λ h. omega (arith, c.start-n1-in-8.ensures.fits h, c.start-n1-in-8.ensures.same))
 
 pub start-n2-requires-in-8 : goal.start-n2-requires-in-8
-start-n2-requires-in-8 t c =
-    let Below : ℕ → Type 0 = λ i. Child c.requires.1.count c.args.nodes.now c.args.at i in
-    let falls_to : (i : ℕ) → Below i → depth (part_at c.args.nodes.now i) < t = λ i k. omega (arith, c.decreases, k.less) in
-    let kind_is : (n : ℕ) → c.kind_of.result ≡ n → kind_of_node (get_or c.args.nodes.now c.args.at 0) ≡ n = λ n e. sym c.kind_of.ensures ∙ e in
-    (falls_to _ (child_beside c.requires.1 (get_or c.args.ends.now (c.args.at + 1) 0) refl (kind_is 8 c.in-8.is)), (c.above-top-in-8.ensures.within, ready_at c.requires.1 (child_beside c.requires.1 (get_or c.args.ends.now (c.args.at + 1) 0) refl (kind_is 8 c.in-8.is)), c.requires.2))
+start-n2-requires-in-8 t c = (
+  child_falls c.decreases (child_beside c.requires.1 (get_or c.args.ends.now (c.args.at + 1) 0) refl (sym c.kind_of.ensures ∙ c.in-8.is)),
+  (c.above-top-in-8.ensures.within, ready_at c.requires.1 (child_beside c.requires.1 (get_or c.args.ends.now (c.args.at + 1) 0) refl (sym c.kind_of.ensures ∙ c.in-8.is)), c.requires.2),
+)
 
 pub together-requires : goal.together-requires
 together-requires t c =
-    let Below : ℕ → Type 0 = λ i. Child c.requires.1.count c.args.nodes.now c.args.at i in
-    let less_room : (i : ℕ) → Below i → c.args.base + 128 + room_for (part_at c.args.nodes.now i) ≤ (c.args.base + room_for (part_at c.args.nodes.now c.args.at)) = λ i k. omega (arith, k.less) in
-    let wide : (i : ℕ) → Below i → c.args.base + 386 ≤ (c.args.base + room_for (part_at c.args.nodes.now c.args.at)) = λ i k. omega (arith, k.less, depth_positive (part_at c.args.nodes.now i)) in
-    let within_room : (i : ℕ) (a b : List ℕ) (n : ℕ) (v : CappedRows) → Below i → Made a b c.args.base (c.args.base + room_for (part_at c.args.nodes.now i)) v n → Made a b c.args.base (c.args.base + room_for (part_at c.args.nodes.now c.args.at)) v n = λ i a b n v k m. made_need (c.args.base + room_for (part_at c.args.nodes.now c.args.at)) m (let h = less_room _ k in omega arith) in
-    let kind_is : (n : ℕ) → c.kind_of.result ≡ n → kind_of_node (get_or c.args.nodes.now c.args.at 0) ≡ n = λ n e. sym c.kind_of.ensures ∙ e in
-    beside_top (within_room _ _ _ _ _ (child_parallel c.requires.1 (kind_is 8 c.in-8.is)) c.start-n1-in-8.ensures) c.above-top-in-8.ensures (wide _ (child_parallel c.requires.1 (kind_is 8 c.in-8.is))) c.start-n2-in-8.ensures (λ h e. let z = less_room _ (child_beside c.requires.1 (get_or c.args.ends.now (c.args.at + 1) 0) refl (kind_is 8 c.in-8.is)) in omega arith)
+    beside_top (within_room (child_parallel c.requires.1 (sym c.kind_of.ensures ∙ c.in-8.is)) c.start-n1-in-8.ensures) c.above-top-in-8.ensures (wide c.args.base (child_parallel c.requires.1 (sym c.kind_of.ensures ∙ c.in-8.is))) c.start-n2-in-8.ensures
+    (λ h e. let z = less_room c.args.base (child_beside c.requires.1 (get_or c.args.ends.now (c.args.at + 1) 0) refl (sym c.kind_of.ensures ∙ c.in-8.is)) in omega arith)
 
 pub start-n-requires-in-9 : goal.start-n-requires-in-9
 start-n-requires-in-9 t c =
-    let Below : ℕ → Type 0 = λ i. Child c.requires.1.count c.args.nodes.now c.args.at i in
-    let falls_to : (i : ℕ) → Below i → depth (part_at c.args.nodes.now i) < t = λ i k. omega (arith, c.decreases, k.less) in
-    let kind_is : (n : ℕ) → c.kind_of.result ≡ n → kind_of_node (get_or c.args.nodes.now c.args.at 0) ≡ n = λ n e. sym c.kind_of.ensures ∙ e in
-    (falls_to _ (child_loop c.requires.1 (kind_is 9 c.in-9.is)), (c.requires.0, ready_at c.requires.1 (child_loop c.requires.1 (kind_is 9 c.in-9.is)), c.requires.2))
+    (child_falls c.decreases (child_loop c.requires.1 (sym c.kind_of.ensures ∙ c.in-9.is)), (c.requires.0, ready_at c.requires.1 (child_loop c.requires.1 (sym c.kind_of.ensures ∙ c.in-9.is)), c.requires.2))
 
 pub keep_going-requires : goal.keep_going-requires
 keep_going-requires t c =
@@ -507,10 +406,7 @@ keep_going-requires t c =
 
 pub start-n-requires-in-10 : goal.start-n-requires-in-10
 start-n-requires-in-10 t c =
-    let Below : ℕ → Type 0 = λ i. Child c.requires.1.count c.args.nodes.now c.args.at i in
-    let falls_to : (i : ℕ) → Below i → depth (part_at c.args.nodes.now i) < t = λ i k. omega (arith, c.decreases, k.less) in
-    let kind_is : (n : ℕ) → c.kind_of.result ≡ n → kind_of_node (get_or c.args.nodes.now c.args.at 0) ≡ n = λ n e. sym c.kind_of.ensures ∙ e in
-    (falls_to _ (child_try c.requires.1 (kind_is 10 c.in-10.is)), (c.requires.0, ready_at c.requires.1 (child_try c.requires.1 (kind_is 10 c.in-10.is)), c.requires.2))
+    (child_falls c.decreases (child_try c.requires.1 (sym c.kind_of.ensures ∙ c.in-10.is)), (c.requires.0, ready_at c.requires.1 (child_try c.requires.1 (sym c.kind_of.ensures ∙ c.in-10.is)), c.requires.2))
 
 pub catch_exits-requires : goal.catch_exits-requires
 catch_exits-requires t c =
@@ -518,8 +414,7 @@ catch_exits-requires t c =
 
 pub returns-in-0 : goal.returns-in-0
 returns-in-0 t c =
-    let kind_is : (n : ℕ) → c.kind_of.result ≡ n → kind_of_node (get_or c.args.nodes.now c.args.at 0) ≡ n = λ n e. sym c.kind_of.ensures ∙ e in
-    list_nothing c.requires.1 c.args.slotted c.args.assumed c.args.unknown (kind_is 0 c.in-0.is) c.alone.ensures
+    list_nothing c.requires.1 c.args.slotted c.args.assumed c.args.unknown (sym c.kind_of.ensures ∙ c.in-0.is) c.alone.ensures
 
 pub shape_of-area-in-0 : goal.shape_of-area-in-0
 shape_of-area-in-0 t c =
@@ -527,8 +422,7 @@ shape_of-area-in-0 t c =
 
 pub returns-in-1 : goal.returns-in-1
 returns-in-1 t c =
-    let kind_is : (n : ℕ) → c.kind_of.result ≡ n → kind_of_node (get_or c.args.nodes.now c.args.at 0) ≡ n = λ n e. sym c.kind_of.ensures ∙ e in
-    list_pause c.requires.1 c.args.slotted c.args.assumed c.args.unknown (kind_is 1 c.in-1.is) c.operand_of-operand.result c.operand_of-operand.ensures c.paused.ensures
+    list_pause c.requires.1 c.args.slotted c.args.assumed c.args.unknown (sym c.kind_of.ensures ∙ c.in-1.is) c.operand_of-operand.result c.operand_of-operand.ensures c.paused.ensures
 
 pub shape_of-area-in-1 : goal.shape_of-area-in-1
 shape_of-area-in-1 t c =
@@ -536,8 +430,7 @@ shape_of-area-in-1 t c =
 
 pub returns-in-2 : goal.returns-in-2
 returns-in-2 t c =
-    let kind_is : (n : ℕ) → c.kind_of.result ≡ n → kind_of_node (get_or c.args.nodes.now c.args.at 0) ≡ n = λ n e. sym c.kind_of.ensures ∙ e in
-    list_gotopause c.requires.1 c.args.slotted c.args.assumed c.args.unknown (kind_is 2 c.in-2.is) c.operand_of-operand.result c.operand_of-operand.ensures c.paused-in-2.ensures
+    list_gotopause c.requires.1 c.args.slotted c.args.assumed c.args.unknown (sym c.kind_of.ensures ∙ c.in-2.is) c.operand_of-operand.result c.operand_of-operand.ensures c.paused-in-2.ensures
 
 pub shape_of-area-in-2 : goal.shape_of-area-in-2
 shape_of-area-in-2 t c =
@@ -545,8 +438,7 @@ shape_of-area-in-2 t c =
 
 pub returns-in-3 : goal.returns-in-3
 returns-in-3 t c =
-    let kind_is : (n : ℕ) → c.kind_of.result ≡ n → kind_of_node (get_or c.args.nodes.now c.args.at 0) ≡ n = λ n e. sym c.kind_of.ensures ∙ e in
-    list_emit c.requires.1 c.args.slotted c.args.assumed c.args.unknown (kind_is 3 c.in-3.is) c.operand_of-operand.result c.operand_of-operand.ensures c.emitted.ensures
+    list_emit c.requires.1 c.args.slotted c.args.assumed c.args.unknown (sym c.kind_of.ensures ∙ c.in-3.is) c.operand_of-operand.result c.operand_of-operand.ensures c.emitted.ensures
 
 pub shape_of-area-in-3 : goal.shape_of-area-in-3
 shape_of-area-in-3 t c =
@@ -554,8 +446,7 @@ shape_of-area-in-3 t c =
 
 pub returns-in-4 : goal.returns-in-4
 returns-in-4 t c =
-    let kind_is : (n : ℕ) → c.kind_of.result ≡ n → kind_of_node (get_or c.args.nodes.now c.args.at 0) ≡ n = λ n e. sym c.kind_of.ensures ∙ e in
-    list_exit c.requires.1 c.args.slotted c.args.assumed c.args.unknown (kind_is 4 c.in-4.is) c.operand_of-operand.result c.operand_of-operand.ensures c.left.ensures
+    list_exit c.requires.1 c.args.slotted c.args.assumed c.args.unknown (sym c.kind_of.ensures ∙ c.in-4.is) c.operand_of-operand.result c.operand_of-operand.ensures c.left.ensures
 
 pub shape_of-area-in-4 : goal.shape_of-area-in-4
 shape_of-area-in-4 t c =
@@ -563,28 +454,23 @@ shape_of-area-in-4 t c =
 
 pub returns-else-unknown-ne0 : goal.returns-else-unknown-ne0
 returns-else-unknown-ne0 t c =
-    let Below : ℕ → Type 0 = λ i. Child c.requires.1.count c.args.nodes.now c.args.at i in
-    let less_room : (i : ℕ) → Below i → c.args.base + 128 + room_for (part_at c.args.nodes.now i) ≤ (c.args.base + room_for (part_at c.args.nodes.now c.args.at)) = λ i k. omega (arith, k.less) in
-    let wide : (i : ℕ) → Below i → c.args.base + 386 ≤ (c.args.base + room_for (part_at c.args.nodes.now c.args.at)) = λ i k. omega (arith, k.less, depth_positive (part_at c.args.nodes.now i)) in
-    let within_room : (i : ℕ) (a b : List ℕ) (n : ℕ) (v : CappedRows) → Below i → Made a b c.args.base (c.args.base + room_for (part_at c.args.nodes.now i)) v n → Made a b c.args.base (c.args.base + room_for (part_at c.args.nodes.now c.args.at)) v n = λ i a b n v k m. made_need (c.args.base + room_for (part_at c.args.nodes.now c.args.at)) m (let h = less_room _ k in omega arith) in
-    let changed_child : (i : ℕ) (a b c₂ : List ℕ) (n r : ℕ) (v : CappedRows) → (f : Change) → Below i → Made a b c.args.base (c.args.base + room_for (part_at c.args.nodes.now i)) v n
-    → Altered f b c₂ c.args.base n r → Made a c₂ c.args.base (c.args.base + room_for (part_at c.args.nodes.now c.args.at)) (change_rows (change f) v) r = λ i a b c₂ n r v f k m x. altered f (within_room _ _ _ _ _ k m) x in
-    let kind_is : (n : ℕ) → c.kind_of.result ≡ n → kind_of_node (get_or c.args.nodes.now c.args.at 0) ≡ n = λ n e. sym c.kind_of.ensures ∙ e in
     let is_named : names c.operand_of-operand.result (part_at c.args.nodes.now (c.args.at + 1)) ≡ true = sym c.named.ensures ∙ c.if-not-named.false in
-    let gave : GaveUp c.args.area.now c.if-contains.area c.args.base (attempted c.args.slotted c.operand_of-operand.result (part_at c.args.nodes.now (c.args.at + 1)) started c.args.assumed c.args.unknown) = let up : List ℕ → Type 0 = λ z. GaveUp c.args.area.now z c.args.base (attempted c.args.slotted c.operand_of-operand.result (part_at c.args.nodes.now (c.args.at + 1)) started c.args.assumed c.args.unknown) in
-    let key = (kind_is 5 c.in-5.is) in
+    let gave : GaveUp c.args.area.now c.if-contains.area c.args.base
+    (attempted c.args.slotted c.operand_of-operand.result (part_at c.args.nodes.now (c.args.at + 1)) started c.args.assumed c.args.unknown) =
+    let up : List ℕ → Type 0 = λ z. GaveUp c.args.area.now z c.args.base (attempted c.args.slotted c.operand_of-operand.result (part_at c.args.nodes.now (c.args.at + 1)) started c.args.assumed c.args.unknown) in
+    let key = sym c.kind_of.ensures ∙ c.in-5.is in
     elim c.if-contains.branch [
       | then-contains+else-m-ne-OVER w ↦
           subst up (sym w.area-is) (gave_up c.requires.1 key c.operand_of-operand.result c.operand_of-operand.ensures c.args.slotted started c.args.assumed c.args.unknown (sym c.contains.ensures ∙ w.if-contains.true)
-          w.slot_of-slot.result w.with-more.result w.slot_of-slot.ensures w.with-more.ensures (changed_child _ _ _ _ _ _ _ (Local c.operand_of-operand.result w.slot_of-slot.result) (child_signal c.requires.1 (kind_is 5 c.in-5.is)) w.start-n.ensures w.hide_unknown-m.ensures) w.if-m-ne-OVER.false)
+          w.slot_of-slot.result w.with-more.result w.slot_of-slot.ensures w.with-more.ensures (changed_child (Local c.operand_of-operand.result w.slot_of-slot.result) (child_signal c.requires.1 (sym c.kind_of.ensures ∙ c.in-5.is)) w.start-n.ensures w.hide_unknown-m.ensures) w.if-m-ne-OVER.false)
       | else-contains w ↦ subst up (sym w.area-is) (not_tried c.requires.1 key c.operand_of-operand.result c.operand_of-operand.ensures c.args.slotted started c.args.assumed c.args.unknown c.args.area.now c.args.base (sym c.contains.ensures ∙ w.if-contains.false))
     ] in
     let still_short : c.args.base ≤ length c.if-contains.area = omega (arith, c.requires.0, gave.same) in
-    let b = (child_signal c.requires.1 (kind_is 5 c.in-5.is)) in
-    let m = changed_child _ _ _ _ _ _ _ (Hide c.operand_of-operand.result) b c.start-n-in-5.ensures c.hide_signal-n1.ensures in
-    signal_twice c.requires.1 (kind_is 5 c.in-5.is) c.operand_of-operand.result c.operand_of-operand.ensures c.args.slotted started c.args.assumed c.args.unknown
+    let b = (child_signal c.requires.1 (sym c.kind_of.ensures ∙ c.in-5.is)) in
+    let m = changed_child (Hide c.operand_of-operand.result) b c.start-n-in-5.ensures c.hide_signal-n1.ensures in
+    signal_twice c.requires.1 (sym c.kind_of.ensures ∙ c.in-5.is) c.operand_of-operand.result c.operand_of-operand.ensures c.args.slotted started c.args.assumed c.args.unknown
     is_named gave c.if-unknown-ne0.false c.with-with.result c.without-without.result c.with-with.ensures c.without-without.ensures
-    (joined m c.above-top.ensures (wide _ b) ◌++◌ c.start-n2.ensures (λ h e. let z = less_room _ b in omega arith) still_short c.either.ensures)
+    (joined m c.above-top.ensures (wide c.args.base b) ◌++◌ c.start-n2.ensures (λ h e. let z = less_room c.args.base b in omega arith) still_short c.either.ensures)
 
 pub shape_of-area-else-unknown-ne0 : goal.shape_of-area-else-unknown-ne0
 shape_of-area-else-unknown-ne0 t c =
@@ -592,12 +478,8 @@ shape_of-area-else-unknown-ne0 t c =
 
 pub returns-else-contains-3 : goal.returns-else-contains-3
 returns-else-contains-3 t c =
-    let Below : ℕ → Type 0 = λ i. Child c.requires.1.count c.args.nodes.now c.args.at i in
-    let less_room : (i : ℕ) → Below i → c.args.base + 128 + room_for (part_at c.args.nodes.now i) ≤ (c.args.base + room_for (part_at c.args.nodes.now c.args.at)) = λ i k. omega (arith, k.less) in
-    let within_room : (i : ℕ) (a b : List ℕ) (n : ℕ) (v : CappedRows) → Below i → Made a b c.args.base (c.args.base + room_for (part_at c.args.nodes.now i)) v n → Made a b c.args.base (c.args.base + room_for (part_at c.args.nodes.now c.args.at)) v n = λ i a b n v k m. made_need (c.args.base + room_for (part_at c.args.nodes.now c.args.at)) m (let h = less_room _ k in omega arith) in
-    let kind_is : (n : ℕ) → c.kind_of.result ≡ n → kind_of_node (get_or c.args.nodes.now c.args.at 0) ≡ n = λ n e. sym c.kind_of.ensures ∙ e in
-    list_else c.requires.1 c.args.slotted c.args.assumed c.args.unknown (get_or c.args.ends.now (c.args.at + 1) 0) refl (kind_is 6 c.in-6.is) c.operand_of-operand.result c.operand_of-operand.ensures
-    (sym c.contains-in-6.ensures ∙ c.if-contains-2.false) (sym c.contains-in-6-2.ensures ∙ c.if-contains-3.false) (within_room _ _ _ _ _ (child_else c.requires.1 (get_or c.args.ends.now (c.args.at + 1) 0) refl (kind_is 6 c.in-6.is)) c.start-in-6.ensures)
+    list_else c.requires.1 c.args.slotted c.args.assumed c.args.unknown (get_or c.args.ends.now (c.args.at + 1) 0) refl (sym c.kind_of.ensures ∙ c.in-6.is) c.operand_of-operand.result c.operand_of-operand.ensures
+    (sym c.contains-in-6.ensures ∙ c.if-contains-2.false) (sym c.contains-in-6-2.ensures ∙ c.if-contains-3.false) (within_room (child_else c.requires.1 (get_or c.args.ends.now (c.args.at + 1) 0) refl (sym c.kind_of.ensures ∙ c.in-6.is)) c.start-in-6.ensures)
 
 pub shape_of-area-else-contains-3 : goal.shape_of-area-else-contains-3
 shape_of-area-else-contains-3 t c =
@@ -605,17 +487,13 @@ shape_of-area-else-contains-3 t c =
 
 pub returns-else-not-some_ends : goal.returns-else-not-some_ends
 returns-else-not-some_ends t c =
-    let Below : ℕ → Type 0 = λ i. Child c.requires.1.count c.args.nodes.now c.args.at i in
-    let less_room : (i : ℕ) → Below i → c.args.base + 128 + room_for (part_at c.args.nodes.now i) ≤ (c.args.base + room_for (part_at c.args.nodes.now c.args.at)) = λ i k. omega (arith, k.less) in
-    let wide : (i : ℕ) → Below i → c.args.base + 386 ≤ (c.args.base + room_for (part_at c.args.nodes.now c.args.at)) = λ i k. omega (arith, k.less, depth_positive (part_at c.args.nodes.now i)) in
-    let within_room : (i : ℕ) (a b : List ℕ) (n : ℕ) (v : CappedRows) → Below i → Made a b c.args.base (c.args.base + room_for (part_at c.args.nodes.now i)) v n → Made a b c.args.base (c.args.base + room_for (part_at c.args.nodes.now c.args.at)) v n = λ i a b n v k m. made_need (c.args.base + room_for (part_at c.args.nodes.now c.args.at)) m (let h = less_room _ k in omega arith) in
-    let kind_is : (n : ℕ) → c.kind_of.result ≡ n → kind_of_node (get_or c.args.nodes.now c.args.at 0) ≡ n = λ n e. sym c.kind_of.ensures ∙ e in
     let some_end : c.some_ends.result ≡ true = c.if-not-some_ends.false in
     let few : c.start-n1.result ≤ 64 = ending_small c.some_ends.ensures.1 some_end in
-    list_sequence c.requires.1 c.args.slotted c.args.assumed c.args.unknown (get_or c.args.ends.now (c.args.at + 1) 0) refl (kind_is 7 c.in-7.is)
-    (followed_by (within_room _ _ _ _ _ (child_sequence c.requires.1 (kind_is 7 c.in-7.is)) c.start-n1.ensures) _ c.some_ends.ensures
+    list_sequence c.requires.1 c.args.slotted c.args.assumed c.args.unknown (get_or c.args.ends.now (c.args.at + 1) 0) refl (sym c.kind_of.ensures ∙ c.in-7.is)
+    (followed_by (within_room (child_sequence c.requires.1 (sym c.kind_of.ensures ∙ c.in-7.is)) c.start-n1.ensures) _ c.some_ends.ensures
     (capped_clashless c.args.slotted (part_at c.args.nodes.now (c.args.at + 1)) started c.args.assumed c.args.unknown c.requires.2.within) some_end
-    (made_need (c.args.base + room_for (part_at c.args.nodes.now c.args.at)) c.start-n2-in-7.ensures (omega (arith, less_room _ (child_then c.requires.1 (get_or c.args.ends.now (c.args.at + 1) 0) refl (kind_is 7 c.in-7.is)), few))) (wide _ (child_sequence c.requires.1 (kind_is 7 c.in-7.is))) c.product.ensures)
+    (made_need (c.args.base + room_for (part_at c.args.nodes.now c.args.at)) c.start-n2-in-7.ensures (omega (arith, less_room c.args.base (child_then c.requires.1 (get_or c.args.ends.now (c.args.at + 1) 0) refl (sym c.kind_of.ensures ∙ c.in-7.is)), few)))
+    (wide c.args.base (child_sequence c.requires.1 (sym c.kind_of.ensures ∙ c.in-7.is))) c.product.ensures)
 
 pub shape_of-area-else-not-some_ends : goal.shape_of-area-else-not-some_ends
 shape_of-area-else-not-some_ends t c =
@@ -623,14 +501,9 @@ shape_of-area-else-not-some_ends t c =
 
 pub returns-in-8 : goal.returns-in-8
 returns-in-8 t c =
-    let Below : ℕ → Type 0 = λ i. Child c.requires.1.count c.args.nodes.now c.args.at i in
-    let less_room : (i : ℕ) → Below i → c.args.base + 128 + room_for (part_at c.args.nodes.now i) ≤ (c.args.base + room_for (part_at c.args.nodes.now c.args.at)) = λ i k. omega (arith, k.less) in
-    let wide : (i : ℕ) → Below i → c.args.base + 386 ≤ (c.args.base + room_for (part_at c.args.nodes.now c.args.at)) = λ i k. omega (arith, k.less, depth_positive (part_at c.args.nodes.now i)) in
-    let within_room : (i : ℕ) (a b : List ℕ) (n : ℕ) (v : CappedRows) → Below i → Made a b c.args.base (c.args.base + room_for (part_at c.args.nodes.now i)) v n → Made a b c.args.base (c.args.base + room_for (part_at c.args.nodes.now c.args.at)) v n = λ i a b n v k m. made_need (c.args.base + room_for (part_at c.args.nodes.now c.args.at)) m (let h = less_room _ k in omega arith) in
-    let kind_is : (n : ℕ) → c.kind_of.result ≡ n → kind_of_node (get_or c.args.nodes.now c.args.at 0) ≡ n = λ n e. sym c.kind_of.ensures ∙ e in
-    list_parallel c.requires.1 c.args.slotted c.args.assumed c.args.unknown (get_or c.args.ends.now (c.args.at + 1) 0) refl (kind_is 8 c.in-8.is)
-    (joined (within_room _ _ _ _ _ (child_parallel c.requires.1 (kind_is 8 c.in-8.is)) c.start-n1-in-8.ensures) c.above-top-in-8.ensures (wide _ (child_parallel c.requires.1 (kind_is 8 c.in-8.is))) (product Parallel) c.start-n2-in-8.ensures
-    (λ h e. let z = less_room _ (child_beside c.requires.1 (get_or c.args.ends.now (c.args.at + 1) 0) refl (kind_is 8 c.in-8.is)) in omega arith) c.requires.0 c.together.ensures)
+    list_parallel c.requires.1 c.args.slotted c.args.assumed c.args.unknown (get_or c.args.ends.now (c.args.at + 1) 0) refl (sym c.kind_of.ensures ∙ c.in-8.is)
+    (joined (within_room (child_parallel c.requires.1 (sym c.kind_of.ensures ∙ c.in-8.is)) c.start-n1-in-8.ensures) c.above-top-in-8.ensures (wide c.args.base (child_parallel c.requires.1 (sym c.kind_of.ensures ∙ c.in-8.is))) (product Parallel) c.start-n2-in-8.ensures
+    (λ h e. let z = less_room c.args.base (child_beside c.requires.1 (get_or c.args.ends.now (c.args.at + 1) 0) refl (sym c.kind_of.ensures ∙ c.in-8.is)) in omega arith) c.requires.0 c.together.ensures)
 
 pub shape_of-area-in-8 : goal.shape_of-area-in-8
 shape_of-area-in-8 t c =
@@ -638,13 +511,7 @@ shape_of-area-in-8 t c =
 
 pub returns-in-9 : goal.returns-in-9
 returns-in-9 t c =
-    let Below : ℕ → Type 0 = λ i. Child c.requires.1.count c.args.nodes.now c.args.at i in
-    let less_room : (i : ℕ) → Below i → c.args.base + 128 + room_for (part_at c.args.nodes.now i) ≤ (c.args.base + room_for (part_at c.args.nodes.now c.args.at)) = λ i k. omega (arith, k.less) in
-    let within_room : (i : ℕ) (a b : List ℕ) (n : ℕ) (v : CappedRows) → Below i → Made a b c.args.base (c.args.base + room_for (part_at c.args.nodes.now i)) v n → Made a b c.args.base (c.args.base + room_for (part_at c.args.nodes.now c.args.at)) v n = λ i a b n v k m. made_need (c.args.base + room_for (part_at c.args.nodes.now c.args.at)) m (let h = less_room _ k in omega arith) in
-    let changed_child : (i : ℕ) (a b c₂ : List ℕ) (n r : ℕ) (v : CappedRows) → (f : Change) → Below i → Made a b c.args.base (c.args.base + room_for (part_at c.args.nodes.now i)) v n
-    → Altered f b c₂ c.args.base n r → Made a c₂ c.args.base (c.args.base + room_for (part_at c.args.nodes.now c.args.at)) (change_rows (change f) v) r = λ i a b c₂ n r v f k m x. altered f (within_room _ _ _ _ _ k m) x in
-    let kind_is : (n : ℕ) → c.kind_of.result ≡ n → kind_of_node (get_or c.args.nodes.now c.args.at 0) ≡ n = λ n e. sym c.kind_of.ensures ∙ e in
-    list_loop c.requires.1 c.args.slotted c.args.assumed c.args.unknown c.requires.2.within (kind_is 9 c.in-9.is) (changed_child _ _ _ _ _ _ _ Going (child_loop c.requires.1 (kind_is 9 c.in-9.is)) c.start-n-in-9.ensures c.keep_going.ensures)
+    list_loop c.requires.1 c.args.slotted c.args.assumed c.args.unknown c.requires.2.within (sym c.kind_of.ensures ∙ c.in-9.is) (changed_child Going (child_loop c.requires.1 (sym c.kind_of.ensures ∙ c.in-9.is)) c.start-n-in-9.ensures c.keep_going.ensures)
 
 pub shape_of-area-in-9 : goal.shape_of-area-in-9
 shape_of-area-in-9 t c =
@@ -652,13 +519,7 @@ shape_of-area-in-9 t c =
 
 pub returns-in-10 : goal.returns-in-10
 returns-in-10 t c =
-    let Below : ℕ → Type 0 = λ i. Child c.requires.1.count c.args.nodes.now c.args.at i in
-    let less_room : (i : ℕ) → Below i → c.args.base + 128 + room_for (part_at c.args.nodes.now i) ≤ (c.args.base + room_for (part_at c.args.nodes.now c.args.at)) = λ i k. omega (arith, k.less) in
-    let within_room : (i : ℕ) (a b : List ℕ) (n : ℕ) (v : CappedRows) → Below i → Made a b c.args.base (c.args.base + room_for (part_at c.args.nodes.now i)) v n → Made a b c.args.base (c.args.base + room_for (part_at c.args.nodes.now c.args.at)) v n = λ i a b n v k m. made_need (c.args.base + room_for (part_at c.args.nodes.now c.args.at)) m (let h = less_room _ k in omega arith) in
-    let changed_child : (i : ℕ) (a b c₂ : List ℕ) (n r : ℕ) (v : CappedRows) → (f : Change) → Below i → Made a b c.args.base (c.args.base + room_for (part_at c.args.nodes.now i)) v n
-    → Altered f b c₂ c.args.base n r → Made a c₂ c.args.base (c.args.base + room_for (part_at c.args.nodes.now c.args.at)) (change_rows (change f) v) r = λ i a b c₂ n r v f k m x. altered f (within_room _ _ _ _ _ k m) x in
-    let kind_is : (n : ℕ) → c.kind_of.result ≡ n → kind_of_node (get_or c.args.nodes.now c.args.at 0) ≡ n = λ n e. sym c.kind_of.ensures ∙ e in
-    list_try c.requires.1 c.args.slotted c.args.assumed c.args.unknown started c.requires.2.within (kind_is 10 c.in-10.is) (changed_child _ _ _ _ _ _ _ Caught (child_try c.requires.1 (kind_is 10 c.in-10.is)) c.start-n-in-10.ensures c.catch_exits.ensures)
+    list_try c.requires.1 c.args.slotted c.args.assumed c.args.unknown started c.requires.2.within (sym c.kind_of.ensures ∙ c.in-10.is) (changed_child Caught (child_try c.requires.1 (sym c.kind_of.ensures ∙ c.in-10.is)) c.start-n-in-10.ensures c.catch_exits.ensures)
 
 pub shape_of-area-in-10 : goal.shape_of-area-in-10
 shape_of-area-in-10 t c =
