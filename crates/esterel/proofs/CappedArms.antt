@@ -14,7 +14,7 @@ use Rattle.sets.proofs.Booleans.{or_neither, clash, by_cond}
 use Rattle.sets.proofs.Members.{has_empty, test_apart}
 use Rattle.esterel.specs.Statement.{Statement, present, sequence, parallel, loop, try, pauses}
 use Rattle.esterel.specs.Reactions.{State, start, resumed, Reaction}
-use Rattle.esterel.specs.Listing.{Listed, reaction, sorted, only_if, each, follow, together, going, list, Request, request, needs, some_ends, some as Some-of, crowded}
+use Rattle.esterel.specs.Listing.{Listed, reaction, sorted, only_if, each, follow, together, going, list, Request, request, needs, some_ends, some as some_of, crowded}
 use Rattle.esterel.specs.inner.Conditions.{slot_of, condition}
 use Rattle.esterel.specs.inner.Rows.{Row, row_when, sure, only_rows, tested, emit_rows, follow_rows, together_rows, going_rows, caught_rows, rows_of, Agree}
 use Rattle.esterel.specs.inner.CappedRows.{CappedRows, change_rows, join_rows, then_rows, beside_rows}
@@ -30,28 +30,28 @@ use Rattle.esterel.proofs.Absent.{apart_empty, apart_not_crowded}
 use Rattle.esterel.proofs.Told.{Answers, tells, Due, Answered, collected, same_rows, whole, changed, joined, followed, due}
 
 -- ---- needed lists that are not crowded
-one_quiet : (r : Request) → crowds r ≡ false → Some-of crowds (r ∷ []) ≡ false
-unfolding Some-of
+one_quiet : (r : Request) → crowds r ≡ false → some_of crowds (r ∷ []) ≡ false
+unfolding some_of
 one_quiet r h = some_more r [] h refl
 
-pub two_quiet : (r t : Request) → crowds r ≡ false → crowds t ≡ false → Some-of crowds (r ∷ t ∷ []) ≡ false
+pub two_quiet : (r t : Request) → crowds r ≡ false → crowds t ≡ false → some_of crowds (r ∷ t ∷ []) ≡ false
 two_quiet r t h k = some_more r (t ∷ []) h (one_quiet t k)
 
 -- the second only where the first ends
-then_quiet : (r t : Request) (b : Bool) → crowds r ≡ false → crowds t ≡ false → Some-of crowds (r ∷ cond b (t ∷ []) []) ≡ false
+then_quiet : (r t : Request) (b : Bool) → crowds r ≡ false → crowds t ≡ false → some_of crowds (r ∷ cond b (t ∷ []) []) ≡ false
 then_quiet r t b h k = some_more r (cond b (t ∷ []) []) h (some_if t b (λ e. k))
 
 -- and it does not
-end_quiet : (r t : Request) (b : Bool) → b ≡ false → crowds r ≡ false → Some-of crowds (r ∷ cond b (t ∷ []) []) ≡ false
+end_quiet : (r t : Request) (b : Bool) → b ≡ false → crowds r ≡ false → some_of crowds (r ∷ cond b (t ∷ []) []) ≡ false
 end_quiet r t b e h = some_more r (cond b (t ∷ []) []) h (some_if t b (λ k. clash k e))
 
-first_quiet : (r : Request) (l : List Request) → Some-of crowds (r ∷ l) ≡ false → crowds r ≡ false
-unfolding Some-of
-first_quiet r l h = (or_neither (crowds r) (Some-of crowds l) h).0
+first_quiet : (r : Request) (l : List Request) → some_of crowds (r ∷ l) ≡ false → crowds r ≡ false
+unfolding some_of
+first_quiet r l h = (or_neither (crowds r) (some_of crowds l) h).0
 
-rest_quiet : (r : Request) (l : List Request) → Some-of crowds (r ∷ l) ≡ false → Some-of crowds l ≡ false
-unfolding Some-of
-rest_quiet r l h = (or_neither (crowds r) (Some-of crowds l) h).1
+rest_quiet : (r : Request) (l : List Request) → some_of crowds (r ∷ l) ≡ false → some_of crowds l ≡ false
+unfolding some_of
+rest_quiet r l h = (or_neither (crowds r) (some_of crowds l) h).1
 
 needed : (r : Request) (b : Bool) → b ≡ true → Listed r (cond b (r ∷ []) [])
 needed r true e = inl refl
@@ -70,13 +70,13 @@ single (w ∷ []) h = (λ v m. absurd m, tt)
 single (w ∷ v ∷ ws) h = absurd (omega arith)
 
 pub leaf : (M : ℕ) (p : Statement) (x : State) (E U : ℕ) → Within U M → length (rows_of M p x E U) ≤ 1 → ((F : ℕ) → needs p x F ≡ []) → Answered M p x E U (some (rows_of M p x E U))
-unfolding Some-of
+unfolding some_of
 leaf M p x E U v h n = whole p x (tells (record {
   short = omega arith;
   rising = single (rows_of M p x E U) h;
   proper = (rows_are M p x E U v).proper;
   lists = (rows_are M p x E U v).lists;
-  quiet = λ F a. ap (Some-of crowds) (n F);
+  quiet = λ F a. ap (some_of crowds) (n F);
 }))
 
 pub one_row : (b : Bool) (r : Reaction) → length (only_rows b (sure r)) ≤ 1
@@ -109,7 +109,7 @@ present_known : (M : ℕ) (S : ℕ) (p q t : Statement) (E U : ℕ) {v : CappedR
 present_known M S p q t E U f a =
     whole (present S p q) start (same_rows
     (λ d z. due (present S p q) start E (request t start E) (subst (Listed (request t start E)) (sym (f E (λ y h. refl)).1) (inl refl)) (d z))
-    (λ F c. same_alike (f F c).0) (λ F c n. ap (Some-of crowds) (f F c).1 ∙ one_quiet (request t start F) n) a)
+    (λ F c. same_alike (f F c).0) (λ F c n. ap (some_of crowds) (f F c).1 ∙ one_quiet (request t start F) n) a)
 
 pub present_start : (M : ℕ) (S : ℕ) (p q : Statement) (E U : ℕ) (v w : CappedRows) → Within U M → Answered M p start E U v → Answered M q start E U w
     → Answered M (present S p q) start E U (cond (has U S) (join_rows (tested (slot_of M S)) v w) (cond (has E S) v w))
@@ -152,11 +152,11 @@ sequence_resumed M p q X E U {v} {w} a b d =
     (λ ws vs k l. collected M (sequence p q) (resumed X) E U (ws ++ vs) (all_append k.proper l.proper) (λ F c. lists_sorted (lists_append (k.lists F c) (l.lists F c)))
     (λ F c. between (request p (resumed X) F) (request q (resumed X) F) (cond (some_ends (list p (resumed X) F)) (request q start F ∷ []) []) (k.quiet F c) (l.quiet F c)) (λ r m. m)))
   where
-    between : (r t : Request) (l : List Request) → Some-of crowds (r ∷ l) ≡ false → crowds t ≡ false → Some-of crowds (r ∷ t ∷ l) ≡ false
+    between : (r t : Request) (l : List Request) → some_of crowds (r ∷ l) ≡ false → crowds t ≡ false → some_of crowds (r ∷ t ∷ l) ≡ false
     between r t l h k = some_more r (t ∷ l) (first_quiet r l h) (some_more t l k (rest_quiet r l h))
 
     first : Answers M (Due (sequence p q) (resumed X) E U) E U (λ F. follow (list p (resumed X) F) (list q start F))
-        (λ F. Some-of crowds (request p (resumed X) F ∷ cond (some_ends (list p (resumed X) F)) (request q start F ∷ []) [])) (then_rows v w)
+        (λ F. some_of crowds (request p (resumed X) F ∷ cond (some_ends (list p (resumed X) F)) (request q start F ∷ []) [])) (then_rows v w)
     first =
         followed a b (λ e z. due (sequence p q) (resumed X) E (request p (resumed X) E) (inl refl) (e z))
         (λ e f z. due (sequence p q) (resumed X) E (request q start E) (inr (inr (needed (request q start E) (some_ends (list p (resumed X) E)) (e z)))) (f z))

@@ -11,7 +11,7 @@ use Rattle.sets.proofs.Members.{has_only_equal}
 use Rattle.esterel.specs.Statement.{Statement, nothing, pause, emit, signal, present, parallel, depth}
 use Rattle.esterel.specs.Trimming.{names}
 use Rattle.esterel.specs.Reactions.{start, reached_together}
-use Rattle.esterel.specs.Listing.{reaction, before, insert, sorted, each, pair, together, list, needs, some as Some-of, crowded_within, crowded}
+use Rattle.esterel.specs.Listing.{reaction, before, insert, sorted, each, pair, together, list, needs, some as some_of, crowded_within, crowded}
 use Rattle.esterel.specs.inner.Conditions.{condition, always, both, clashes, forget}
 use Rattle.esterel.specs.inner.Rows.{row_when, each_row, given, then, tested, asked, emit_rows, local_row, local_rows, hide_rows, together_rows, rows_of, Agree, Quiet}
 use Rattle.esterel.specs.inner.CappedRows.{less_or, before_row, insert_row, sorted_rows, cap_rows, collect_rows, change_rows, join_rows, otherwise, given_up, twice_rows, capped_rows}
@@ -78,5 +78,5 @@ unfolding count test tests capped_rows join_rows collect_rows cap_rows sorted_ro
 given_up_lem = refl
 
 pub not_crowded : crowded tests start 0 ≡ false
-unfolding test tests crowded crowded_within needs Some-of list sorted insert before each together pair reached_together depth has only ◌union◌ ◌intersect◌
+unfolding test tests crowded crowded_within needs some_of list sorted insert before each together pair reached_together depth has only ◌union◌ ◌intersect◌
 not_crowded = refl

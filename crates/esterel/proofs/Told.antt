@@ -13,7 +13,7 @@ use borrow.Author.Tests.{ltb-true, ltb-false}
 use Rattle.sets.proofs.Booleans.{not_true, clash, by_cond}
 use Rattle.esterel.specs.Statement.{Statement}
 use Rattle.esterel.specs.Reactions.{State, Reaction}
-use Rattle.esterel.specs.Listing.{Listed, list, Request, needs, some_ends, own, child, some as Some-of, crowded}
+use Rattle.esterel.specs.Listing.{Listed, list, Request, needs, some_ends, own, child, some as some_of, crowded}
 use Rattle.esterel.specs.inner.Conditions.{seen}
 use Rattle.esterel.specs.inner.Rows.{Row, under, reactions, follow_rows, Agree}
 use Rattle.esterel.specs.inner.CappedRows.{sorted_rows, CappedRows, cap_rows, collect_rows, change_rows, join_rows, then_rows, otherwise}
@@ -51,7 +51,7 @@ Answered M p x E U v = Answers M (Due p x E U) E U (list p x) (crowded p x) v
 
 -- some list that p needs is crowded
 abbrev pub Below : Statement → State → ℕ → Bool
-Below p x F = Some-of crowds (needs p x F)
+Below p x F = some_of crowds (needs p x F)
 
 -- ---- a list that passes 64
 

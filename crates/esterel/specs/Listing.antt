@@ -74,7 +74,7 @@ pair r t =
 unfoldable pub together : List Reaction → List Reaction → List Reaction
 together ts us = each ts (λ r. each us (λ t. one (pair r t)))
 
--- rules no-loop and loop: those that do not end
+-- rules no_loop and loop: those that do not end
 unfoldable pub going : List Reaction → List Reaction
 going ts = each ts (λ r. only_if (not (eqb r.code 0)) (one r))
 

@@ -63,7 +63,7 @@ digits_more v d h k =
 
 -- ---- What is scanned is spelled so
 
--- the part is letters and digits, with a colon in a pause; the others have none (worded-first and worded-last of Spelling)
+-- the part is letters and digits, with a colon in a pause; the others have none (worded_first and worded_last of Spelling)
 unfoldable pub worded : Part → Bool
 worded (word w) = true
 worded (number n) = true

@@ -28,7 +28,7 @@ use Rattle.table.proofs.Loading.{load_refuses, load_holds, load_statement, load_
 use Rattle.table.proofs.Refusals.{table_refusals, zero_accepted}
 use Rattle.table.proofs.RoundTrip.{below_nodes, valid_ranged, read_written}
 use Rattle.trim.specs.declared.work.Laid.{Laid}
-use Rattle.trim.specs.declared.work.Laid.TheVariants as Laid-as
+use Rattle.trim.specs.declared.work.Laid.TheVariants as laid_as
 use Rattle.trim.specs.declared.work.Part.{Part}
 use Rattle.trim.specs.declared.Trimmed.{Trimmed}
 use Rattle.trim.specs.declared.Trimmed.TheVariants.{Refused}
@@ -37,13 +37,13 @@ use Rattle.trim.specs.inner.Root.{Ends, LaidOut, EndFits, Finished}
 
 -- ---- where the trimmed statement stands
 
-pub never_laid : {q : Statement} {laid : Laid} {work : List ℕ} → LaidOut q laid work → laid ≡ Laid-as.Refused → ⊥
+pub never_laid : {q : Statement} {laid : Laid} {work : List ℕ} → LaidOut q laid work → laid ≡ laid_as.Refused → ⊥
 never_laid L e = let z : ◌≡◌ {A = ℕ} 0 1 = cc (sym e ∙ L.at) in omega arith
 
-pub laid_ends : {q : Statement} {laid : Laid} {work : List ℕ} → LaidOut q laid work → {part : Part} → laid ≡ Laid-as.At part → Ends q part work
+pub laid_ends : {q : Statement} {laid : Laid} {work : List ℕ} → LaidOut q laid work → {part : Part} → laid ≡ laid_as.At part → Ends q part work
 laid_ends {q} {laid} {work} L e = subst (λ (p : Part). Ends q p work) (same (sym L.at ∙ e)) L.ends
   where
-    same : {f g : Part} → Laid-as.At f ≡ Laid-as.At g → f ≡ g
+    same : {f g : Part} → laid_as.At f ≡ laid_as.At g → f ≡ g
     same e = cc
 
 -- ---- the answer

@@ -25,7 +25,7 @@ returns-then-used-eq-MOST_SLOTS c =
 
 pub loop-at-preserved : goal.loop-at-preserved
 loop-at-preserved c =
-    let t = taken_more _ c.loop-at.invariant.2 (c.declares.ensures (c.if-not-declares.false)) (c.with-set.ensures ∙ ap (λ (z : ℕ). c.loop-at.set union only z) c.operand_of.ensures) in
+    let t = taken_more _ c.loop-at.invariant.2 (c.declares.ensures c.if-not-declares.false) (c.with-set.ensures ∙ ap (λ (z : ℕ). c.loop-at.set union only z) c.operand_of.ensures) in
     (omega arith, omega arith, t)
 
 pub returns : goal.returns

@@ -15,7 +15,7 @@ pub emitted_in-requires : goal.emitted_in-requires
 emitted_in-requires c = tt
 
 pub overflow_cast-o : goal.overflow_cast-o
-overflow_cast-o c = omega (arith, c.shared_slice_known-in-loop-i-1.given (2 * c.loop-i.i))
+overflow_cast-o c = omega (arith, c.type_inv.area (2 * c.loop-i.i))
 
 pub bounds-o-i : goal.bounds-o-i
 bounds-o-i c = omega (arith, c.loop-i.invariant.1.same, c.requires.1)

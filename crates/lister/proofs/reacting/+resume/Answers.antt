@@ -7,28 +7,24 @@ use mathlib.Core.List.{List, ◌++◌}
 use Prim.Native.Nat.{ℕ, ◌+◌, ◌≤◌, ◌<◌}
 use lib.ListN.{length, get_or}
 use Rattle.sets.specs.Set.{◌intersect◌}
-use Rattle.esterel.specs.Statement.{depth, pauses}
+use Rattle.esterel.specs.Statement.{pauses}
 use Rattle.esterel.specs.Reactions.{resumed}
 use Rattle.esterel.specs.Trimming.{names}
-use Rattle.esterel.specs.inner.CappedRows.{CappedRows, change_rows}
-use Rattle.table.specs.Reading.{kind_of_node}
-use Rattle.area.specs.declared.Change.{Change}
 use Rattle.area.specs.declared.Change.TheVariants.{Hide, Local, Caught}
 use Rattle.area.specs.declared.Pairing.TheVariants.{Parallel}
-use Rattle.area.specs.inner.Rules.{change, product}
-use Rattle.area.specs.inner.Area.{Made, Altered}
+use Rattle.area.specs.inner.Rules.{product}
 use Rattle.area.proofs.Made.{made_cramped}
 use Rattle.area.proofs.Rules.{capped_clashless}
 use Rattle.lister.specs.inner.Notes.{part_at}
 use Rattle.lister.specs.inner.Joins.{room_for}
 use Rattle.lister.proofs.Nodes.{not_known}
 use Rattle.lister.proofs.Slots.{slotted_more, slotted_none}
-use Rattle.lister.proofs.Joins.{altered, standing, followed}
+use Rattle.lister.proofs.Joins.{standing, followed}
 use Rattle.lister.proofs.Signals.{attempted, GaveUp, signal_unnamed, signal_tried, gave_up, not_tried, signal_passed, signal_twice}
-use Rattle.lister.proofs.Starts.{Child, place_few, ready_at, child_signal, child_present, child_else, child_sequence, child_then, child_parallel, child_beside, child_loop, child_try, list_try}
+use Rattle.lister.proofs.Starts.{place_few, ready_at, child_signal, child_present, child_else, child_sequence, child_then, child_parallel, child_beside, child_loop, child_try, list_try}
 use Rattle.lister.proofs.Resumes.{resumable_at, meets, meets_not, child_made, beside_child, joined_child, signal_given_up}
 use Rattle.lister.proofs.Resumes.{resumed_quiet, resumed_nothing, resumed_pause, resumed_gotopause, resumed_emit, resumed_exit, resumed_present, resumed_sequence, resumed_right, resumed_left, resumed_both, resumed_loop}
-use Rattle.lister.proofs.Rooms.{child_falls, less_room, wide, within_room, changed_child}
+use Rattle.lister.proofs.Rooms.{child_falls, less_room, changed_child}
 use Rattle.lister.proofs.reacting.+resume.Goals as goal
 use Rattle.lister.proofs.reacting.+resume.Goals.{then-contains+else-m-ne-OVER, else-contains}
 

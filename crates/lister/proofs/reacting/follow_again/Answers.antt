@@ -29,19 +29,19 @@ some_ends-requires c = λ h. (c.requires.0 h).0
 
 pub returns-then-not-some_ends : goal.returns-then-not-some_ends
 returns-then-not-some_ends c =
-    record { small = λ h. followed_not (standing_made c.requires.0 h) _ c.some_ends.ensures (c.if-not-some_ends.true); large = λ h. (refl, refl) }
+    record { small = λ h. followed_not (standing_made c.requires.0 h) _ c.some_ends.ensures c.if-not-some_ends.true; large = λ h. (refl, refl) }
 
 pub overflow_mul-top : goal.overflow_mul-top
-overflow_mul-top c = let h = ending_small c.some_ends.ensures.1 (c.if-not-some_ends.false) in omega (arith, h)
+overflow_mul-top c = let h = ending_small c.some_ends.ensures.1 c.if-not-some_ends.false in omega (arith, h)
 
 pub overflow_add-top : goal.overflow_add-top
 overflow_add-top c =
-    let h = ending_small c.some_ends.ensures.1 (c.if-not-some_ends.false) in
+    let h = ending_small c.some_ends.ensures.1 c.if-not-some_ends.false in
     omega (arith, h, (c.requires.0 h).0)
 
 pub start-started-requires : goal.start-started-requires
 start-started-requires c =
-    let h = ending_small c.some_ends.ensures.1 (c.if-not-some_ends.false) in
+    let h = ending_small c.some_ends.ensures.1 c.if-not-some_ends.false in
     (omega (arith, h, (c.requires.0 h).0), c.requires.1, c.requires.2)
 
 pub keep_going-n2-requires : goal.keep_going-n2-requires
@@ -49,15 +49,15 @@ keep_going-n2-requires c = λ h. omega (arith, c.start-started.ensures.fits h, c
 
 pub product-requires : goal.product-requires
 product-requires c =
-    let h = ending_small c.some_ends.ensures.1 (c.if-not-some_ends.false) in
+    let h = ending_small c.some_ends.ensures.1 c.if-not-some_ends.false in
     beside (standing_made c.requires.0 h) h
     (going_made (part_at c.args.nodes.now c.args.at) c.args.assumed c.requires.2 (c.args.base + 128 + room_for (part_at c.args.nodes.now c.args.at)) c.start-started.ensures (omega (arith, h)) c.keep_going-n2.ensures)
 
 pub returns : goal.returns
 returns c =
-    let h = ending_small c.some_ends.ensures.1 (c.if-not-some_ends.false) in
+    let h = ending_small c.some_ends.ensures.1 c.if-not-some_ends.false in
     record {
-      small = λ k. followed_by (standing_made c.requires.0 h) _ c.some_ends.ensures (standing_free c.args.area.now c.args.base c.args.n c.requires.0 h) (c.if-not-some_ends.false)
+      small = λ k. followed_by (standing_made c.requires.0 h) _ c.some_ends.ensures (standing_free c.args.area.now c.args.base c.args.n c.requires.0 h) c.if-not-some_ends.false
           (going_made (part_at c.args.nodes.now c.args.at) c.args.assumed c.requires.2 (c.args.base + 128 + room_for (part_at c.args.nodes.now c.args.at)) c.start-started.ensures (omega (arith, h)) c.keep_going-n2.ensures)
           (omega (arith, depth_positive (part_at c.args.nodes.now c.args.at))) c.product.ensures;
       large = λ k. absurd (omega (arith, h));

@@ -9,7 +9,7 @@ use Rattle.reader.proofs.lexing.number.Goals as goal
 
 pub returns-then-not-is_digit : goal.returns-then-not-is_digit
 returns-then-not-is_digit c =
-    no_number c.args.text.now c.args.end (tested c.before-ones.ensures c.is_digit.ensures (c.if-not-is_digit.true))
+    no_number c.args.text.now c.args.end (tested c.before-ones.ensures c.is_digit.ensures c.if-not-is_digit.true)
 
 pub overflow_sub-end : goal.overflow_sub-end
 overflow_sub-end c =

@@ -4,7 +4,7 @@ use mathlib.Core.Path.{◌≡◌, sym, ap, ◌∙◌}
 use mathlib.Core.Logic.{◌⊎◌, inl, inr}
 use mathlib.Core.List.{List}
 use mathlib.Core.Bool.{Bool, true, false, cond}
-use Prim.Native.Nat.{ℕ, ◌+◌, ◌-◌, ◌/◌, ◌%◌, ◌≤◌, ◌<◌}
+use Prim.Native.Nat.{ℕ, ◌+◌, ◌/◌, ◌%◌, ◌≤◌, ◌<◌}
 use native.Mathlib.Omega.{arith}
 use native.Mathlib.Decide.{ℕ_discrete}
 use lib.Dec.{eqb}
@@ -13,7 +13,7 @@ use lib.Seq.{get_or-take, length-take-le}
 use Rattle.table.specs.declared.Row.{Row}
 use Rattle.table.specs.Kinds.{kind_of, row_of}
 use Rattle.table.specs.Reading.{fault_of}
-use Rattle.table.specs.inner.Loading.{field_fault, Rows}
+use Rattle.table.specs.inner.Loading.{field_fault}
 use Rattle.table.proofs.Faults.{Fields, fault_none, fault_kind, fault_other, fault_exit, fault_pause}
 use Rattle.table.proofs.Walking.{At, Parent, walk_end, walk_fault, walk_pause, walk_leaf, walk_first, walk_only, walk_second}
 use Rattle.table.proofs.reading.+walk.Goals as goal

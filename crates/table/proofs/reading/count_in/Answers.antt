@@ -10,7 +10,7 @@ pub returns : goal.returns
 returns c =
     count_read {t = c.args.table.now}
     (record {
-      bytes = λ i. omega (arith, c.shared_slice_known-1.given i);
+      bytes = λ i. omega (arith, c.type_inv.table i);
       long = c.if-table-lt2.false;
       value = c.word_at.ensures;
     })

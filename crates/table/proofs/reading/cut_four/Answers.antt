@@ -33,5 +33,5 @@ bounds-nodes-i-4 c = simp length-set (omega arith)
 
 pub returns : goal.returns
 returns c =
-    four_cut c.args.table.now _ _ (λ i. omega (arith, c.shared_slice_known-1.given i)) _ _ _ _ _ c.requires.0 refl c.requires.3 c.requires.2
+    four_cut c.args.table.now _ _ (λ i. omega (arith, c.type_inv.table i)) _ _ _ _ _ c.requires.0 refl c.requires.3 c.requires.2
     c.field_at.ensures c.field_at-2.ensures c.field_at-3.ensures c.field_at-4.ensures

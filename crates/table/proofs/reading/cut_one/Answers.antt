@@ -12,4 +12,4 @@ unfolding length_of
 field_at-requires c = (omega arith, omega arith)
 
 pub returns : goal.returns
-returns c = one_cut c.args.table.now _ _ (λ i. omega (arith, c.shared_slice_known-1.given i)) _ c.requires.2 c.requires.1 c.field_at.ensures
+returns c = one_cut c.args.table.now _ _ (λ i. omega (arith, c.type_inv.table i)) _ c.requires.2 c.requires.1 c.field_at.ensures

@@ -15,20 +15,20 @@ returns-in_default c =
 
 pub decode-requires : goal.decode-requires
 decode-requires c =
-    let accepted : header_of (c.args.table.now) ≡ Accepted c.in-Accepted.n = sym c.header-head.ensures ∙ c.in-Accepted.is in
-    let headed : Headed (c.args.table.now) c.in-Accepted.n = header_accepted (c.args.table.now) c.in-Accepted.n accepted in
+    let accepted : header_of c.args.table.now ≡ Accepted c.in-Accepted.n = sym c.header-head.ensures ∙ c.in-Accepted.is in
+    let headed : Headed c.args.table.now c.in-Accepted.n = header_accepted c.args.table.now c.in-Accepted.n accepted in
     let h = headed in
     let few : c.in-Accepted.n ≤ 1024 = h.few in
     (few, h.whole, omega arith)
 
 pub check_nodes-requires : goal.check_nodes-requires
 check_nodes-requires c =
-    let accepted : header_of (c.args.table.now) ≡ Accepted c.in-Accepted.n = sym c.header-head.ensures ∙ c.in-Accepted.is in
-    let headed : Headed (c.args.table.now) c.in-Accepted.n = header_accepted (c.args.table.now) c.in-Accepted.n accepted in
+    let accepted : header_of c.args.table.now ≡ Accepted c.in-Accepted.n = sym c.header-head.ensures ∙ c.in-Accepted.is in
+    let headed : Headed c.args.table.now c.in-Accepted.n = header_accepted c.args.table.now c.in-Accepted.n accepted in
     let h = headed in
     (omega arith, h.few, omega arith)
 
 pub returns : goal.returns
 returns c =
-    let accepted : header_of (c.args.table.now) ≡ Accepted c.in-Accepted.n = sym c.header-head.ensures ∙ c.in-Accepted.is in
-    load_walked (c.args.table.now) (c.args.nodes.now) c.decode.new.nodes c.in-Accepted.n c.check_nodes.result accepted c.decode.ensures c.check_nodes.ensures
+    let accepted : header_of c.args.table.now ≡ Accepted c.in-Accepted.n = sym c.header-head.ensures ∙ c.in-Accepted.is in
+    load_walked c.args.table.now c.args.nodes.now c.decode.new.nodes c.in-Accepted.n c.check_nodes.result accepted c.decode.ensures c.check_nodes.ensures

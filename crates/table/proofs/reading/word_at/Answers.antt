@@ -5,11 +5,11 @@ use Rattle.table.proofs.Cutting.{joined}
 use Rattle.table.proofs.reading.word_at.Goals as goal
 
 pub overflow_cast-result : goal.overflow_cast-result
-overflow_cast-result c = omega (arith, c.shared_slice_known-1.given c.args.at)
+overflow_cast-result c = omega (arith, c.type_inv.table c.args.at)
 
 pub overflow_cast-result-2 : goal.overflow_cast-result-2
-overflow_cast-result-2 c = omega (arith, c.shared_slice_known-2-1.given (c.args.at + 1))
+overflow_cast-result-2 c = omega (arith, c.type_inv.table (c.args.at + 1))
 
 pub returns : goal.returns
 returns c =
-    joined _ _ (omega (arith, c.shared_slice_known-1.given c.args.at)) (omega (arith, c.shared_slice_known-2-1.given (c.args.at + 1)))
+    joined _ _ (omega (arith, c.type_inv.table c.args.at)) (omega (arith, c.type_inv.table (c.args.at + 1)))
