@@ -17,7 +17,7 @@ look-requires c =
     let ready = c.prepare-prepared.ensures.accepts c.in-Accepted.is in (
       ready.noted,
       few_unknown c.args.table.now c.args.provided c.args.mark c.args.labels ready
-          c.emitted_free-free.ensures c.count.ensures c.minus-unknown.ensures (omega (arith, c.if-count-gt-MOST_FREE.false)),
+          c.emitted_free-free.ensures c.count.ensures c.minus-unknown.ensures (omega arith),
     )
 
 pub returns-in-Refused : goal.returns-in-Refused
@@ -28,4 +28,4 @@ pub returns-else-count-gt-MOST_FREE : goal.returns-else-count-gt-MOST_FREE
 returns-else-count-gt-MOST_FREE c =
     let ready = c.prepare-prepared.ensures.accepts c.in-Accepted.is in
     looked_step c.args.table.now c.args.provided c.args.mark c.args.labels ready c.emitted_free-free.ensures c.count.ensures
-    c.minus-unknown.ensures (omega (arith, c.if-count-gt-MOST_FREE.false)) c.state_of.ensures c.look.ensures
+    c.minus-unknown.ensures (omega arith) c.state_of.ensures c.look.ensures

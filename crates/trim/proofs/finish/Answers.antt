@@ -1,4 +1,5 @@
 -- `finish` meets its contract: each return is an answer for whatever statement stands at the end of the work area.
+use native.Mathlib.Omega.{arith}
 use Rattle.trim.proofs.Root.{finish_many, finish_deep, finish_short, finish_writable, finish_written}
 use Rattle.trim.proofs.finish.Goals as goal
 
@@ -10,13 +11,13 @@ returns-then-part-gt-DEEPEST c = finish_deep c.args.before c.args.part c.args.wo
 
 pub returns-then-out-bytes : goal.returns-then-out-bytes
 returns-then-out-bytes c =
-    finish_short c.args.before c.args.part c.args.work.now c.args.out.now c.if-count-gt-MOST_NODES.false c.if-part-gt-DEEPEST.false c.length_of-bytes.result c.length_of-bytes.ensures c.if-out-bytes.true
+    finish_short c.args.before c.args.part c.args.work.now c.args.out.now (omega arith) (omega arith) c.length_of-bytes.result c.length_of-bytes.ensures c.if-out-bytes.true
 
 pub write_nodes-requires : goal.write_nodes-requires
 write_nodes-requires c =
-    finish_writable c.args.before c.args.part c.args.work.now c.args.out.now c.if-count-gt-MOST_NODES.false c.if-part-gt-DEEPEST.false c.length_of-bytes.result c.length_of-bytes.ensures c.if-out-bytes.false c.requires.1
+    finish_writable c.args.before c.args.part c.args.work.now c.args.out.now (omega arith) (omega arith) c.length_of-bytes.result c.length_of-bytes.ensures (omega arith) c.requires.1
 
 pub returns : goal.returns
 returns c =
-    finish_written c.args.before c.args.part c.args.work.now c.args.out.now c.if-count-gt-MOST_NODES.false c.if-part-gt-DEEPEST.false c.length_of-bytes.result c.length_of-bytes.ensures c.if-out-bytes.false
+    finish_written c.args.before c.args.part c.args.work.now c.args.out.now (omega arith) (omega arith) c.length_of-bytes.result c.length_of-bytes.ensures (omega arith)
     c.share_of-share.result c.share_of-share.ensures c.write_nodes.result c.write_nodes.new.out c.write_nodes.ensures

@@ -33,16 +33,16 @@ with-labels-requires c = omega arith
 pub bounds-unions-behind : goal.bounds-unions-behind
 bounds-unions-behind c =
     let q = one_back c.loop-at.invariant c.loop-at-test.true in
-    omega (arith, (few_behind (came_to c.requires.0 q)).1 (sym c.kind_of.ensures ∙ c.if-kind_of-eq-PAUSE.true))
+    omega (arith, (few_behind (came_to c.requires.0 q)).1 (sym c.kind_of.ensures ∙ (omega arith)))
 
 pub overflow_add-behind : goal.overflow_add-behind
-overflow_add-behind c = let q = one_back c.loop-at.invariant c.loop-at-test.true in omega (arith, (few_behind (came_to c.requires.0 q)).1 (sym c.kind_of.ensures ∙ c.if-kind_of-eq-PAUSE.true))
+overflow_add-behind c = let q = one_back c.loop-at.invariant c.loop-at-test.true in omega (arith, (few_behind (came_to c.requires.0 q)).1 (sym c.kind_of.ensures ∙ (omega arith)))
 
 pub overflow_cast-unions : goal.overflow_cast-unions
-overflow_cast-unions c = let q = one_back c.loop-at.invariant c.loop-at-test.true in omega (arith, (few_behind (came_to c.requires.0 q)).1 (sym c.kind_of.ensures ∙ c.if-kind_of-eq-PAUSE.true))
+overflow_cast-unions c = let q = one_back c.loop-at.invariant c.loop-at-test.true in omega (arith, (few_behind (came_to c.requires.0 q)).1 (sym c.kind_of.ensures ∙ (omega arith)))
 
 pub offset_bounds-unions-behind : goal.offset_bounds-unions-behind
-offset_bounds-unions-behind c = let q = one_back c.loop-at.invariant c.loop-at-test.true in omega (arith, (few_behind (came_to c.requires.0 q)).1 (sym c.kind_of.ensures ∙ c.if-kind_of-eq-PAUSE.true))
+offset_bounds-unions-behind c = let q = one_back c.loop-at.invariant c.loop-at-test.true in omega (arith, (few_behind (came_to c.requires.0 q)).1 (sym c.kind_of.ensures ∙ (omega arith)))
 
 pub loop-at-preserved-then-kind_of-eq-PAUSE : goal.loop-at-preserved-then-kind_of-eq-PAUSE
 loop-at-preserved-then-kind_of-eq-PAUSE c =
@@ -52,7 +52,7 @@ loop-at-preserved-then-kind_of-eq-PAUSE c =
 pub loop-at-preserved : goal.loop-at-preserved
 loop-at-preserved c =
     let q = one_back c.loop-at.invariant c.loop-at-test.true in
-    passed_other c.requires.0 q (c.note_at.ensures _ _ (came_to c.requires.0 q)) (λ e. c.if-kind_of-eq-PAUSE.false (c.kind_of.ensures ∙ e))
+    passed_other c.requires.0 q (c.note_at.ensures _ _ (came_to c.requires.0 q)) (λ e. let k : c.kind_of.result ≡ 1 = c.kind_of.ensures ∙ e in omega arith)
 
 pub returns : goal.returns
 returns c =

@@ -1,4 +1,5 @@
 -- By the answer of check and the nesting of the root.
+use native.Mathlib.Omega.{arith}
 use Rattle.list.proofs.Limits.{prepared_checked, loaded_passable, never_unknown, prepared_deep, prepared_ready}
 use Rattle.list.proofs.preparing.prepare.Goals as goal
 
@@ -20,4 +21,4 @@ returns-then-nest-gt-MOST_NESTED c =
 
 pub returns : goal.returns
 returns c =
-    prepared_ready c.args.table.now c.args.nodes.now _ c.load-checked.result c.load-checked.ensures _ c.in-Accepted.is c.requires.nodes c.note_all.ensures _ c.nest_of-nest.ensures c.if-nest-gt-MOST_NESTED.false
+    prepared_ready c.args.table.now c.args.nodes.now _ c.load-checked.result c.load-checked.ensures _ c.in-Accepted.is c.requires.nodes c.note_all.ensures _ c.nest_of-nest.ensures (omega arith)

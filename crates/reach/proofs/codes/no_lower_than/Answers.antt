@@ -1,4 +1,5 @@
 -- `codes::no_lower_than` meets its contract: by the lowest code of the second set.
+use native.Mathlib.Omega.{arith}
 use mathlib.Core.Path.{sym, ap, ◌∙◌}
 use Prim.Native.Nat.{ℕ}
 use Rattle.reach.specs.inner.CodeSets.{codes_of}
@@ -16,4 +17,4 @@ returns-then-b-ne0 c =
 pub returns : goal.returns
 returns c =
     ap (λ (x : ℕ). codes_of (words 0 x)) c.not_below.ensures
-    ∙ higher_kept c.args.a c.args.b (sym c.ends.ensures ∙ c.if-ends.false) c.if-b-ne0.false
+    ∙ higher_kept c.args.a c.args.b (sym c.ends.ensures ∙ c.if-ends.false) (omega arith)

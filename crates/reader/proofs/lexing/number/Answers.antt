@@ -83,4 +83,4 @@ pub returns : goal.returns
 returns c =
     let ones_digit : is_digit c.before-ones.result ≡ true = sym c.is_digit.ensures ∙ c.if-not-is_digit.false in
     let tens_digit : is_digit c.before-tens.result ≡ true = sym c.is_digit-2.ensures ∙ c.if-not-is_digit-2.false in
-    number_two _ _ c.requires _ _ c.before-ones.ensures c.before-tens.ensures ones_digit tens_digit (tested c.before-2.ensures c.is_digit-3.ensures c.if-is_digit.false) c.if-tens-eq48.false
+    number_two _ _ c.requires _ _ c.before-ones.ensures c.before-tens.ensures ones_digit tens_digit (tested c.before-2.ensures c.is_digit-3.ensures c.if-is_digit.false) (omega arith)

@@ -18,14 +18,14 @@ returns-then-reader-ne-DEEPEST c =
 pub returns-then-not-ranged : goal.returns-then-not-ranged
 unfolding verdict_is
 returns-then-not-ranged c =
-    (finished_outside _ _ c.if-is_due.false c.if-reader-ne-DEEPEST.false _ (ap not c.if-not-ranged.true), tt)
+    (finished_outside _ _ c.if-is_due.false (omega arith) _ (ap not c.if-not-ranged.true), tt)
 
 pub returns-then-count-eq-TOO_MANY : goal.returns-then-count-eq-TOO_MANY
 unfolding verdict_is
 returns-then-count-eq-TOO_MANY c =
-    (finished_many _ _ c.if-is_due.false c.if-reader-ne-DEEPEST.false _ (ap not c.if-not-ranged.false) c.chain-count.ensures.1 c.if-count-eq-TOO_MANY.true, tt)
+    (finished_many _ _ c.if-is_due.false (omega arith) _ (ap not c.if-not-ranged.false) c.chain-count.ensures.1 c.if-count-eq-TOO_MANY.true, tt)
 
 pub returns : goal.returns
 unfolding verdict_is
 returns c =
-    (finished_whole _ _ c.if-is_due.false c.if-reader-ne-DEEPEST.false _ (ap not c.if-not-ranged.false) c.chain-count.ensures.1 c.if-count-eq-TOO_MANY.false, (omega arith, c.chain-count.ensures.1.filled))
+    (finished_whole _ _ c.if-is_due.false (omega arith) _ (ap not c.if-not-ranged.false) c.chain-count.ensures.1 c.if-count-eq-TOO_MANY.false, (omega arith, c.chain-count.ensures.1.filled))

@@ -1,5 +1,5 @@
 -- The invariant: what was met of each signal in the nodes so far. The measure is the nodes that are left.
-use mathlib.Core.Path.{sym, ◌∙◌}
+use mathlib.Core.Path.{◌≡◌, sym, ◌∙◌}
 use native.Mathlib.Omega.{arith}
 use Rattle.lister.proofs.Starts.{place_few}
 use Rattle.step.proofs.Scanning.{first_few, tracked_none, tracked_hidden, tracked_plain, tracked_emit, tracked_signal, tracked_all}
@@ -40,7 +40,7 @@ loop-next-preserved-then-kind-eq-SIGNAL c =
 
 pub loop-next-preserved : goal.loop-next-preserved
 loop-next-preserved c =
-    (omega arith, c.loop-next.invariant.1, tracked_plain c.loop-next.invariant.2 _ c.operand_of-signal.ensures (λ e. c.if-kind-eq-EMIT.false (c.kind_of-kind.ensures ∙ e)) (λ e. c.if-kind-eq-SIGNAL.false (c.kind_of-kind.ensures ∙ e)))
+    (omega arith, c.loop-next.invariant.1, tracked_plain c.loop-next.invariant.2 _ c.operand_of-signal.ensures (λ e. c.if-kind-eq-EMIT.false (c.kind_of-kind.ensures ∙ e)) (λ e. let k : c.kind_of-kind.result ≡ 5 = c.kind_of-kind.ensures ∙ e in omega arith))
 
 pub returns : goal.returns
 returns c =

@@ -62,4 +62,4 @@ pub returns : goal.returns
 returns c =
     let first = first_word c.args.table.now (λ i. omega (arith, c.type_inv.table i)) c.if-table-lt2.false c.word_at-word.ensures in
     header_passed first c.if-word-ne1.false c.if-n-eq0.false c.if-n-gt-MOST_NODES.false
-    c.if-table-bits.false c.if-last-padding-ne0.false
+    c.if-table-bits.false (omega arith)
