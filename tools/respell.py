@@ -20,7 +20,6 @@ WORD = r'[^\s(){}.;,@"«»]+'
 DECLARED = re.compile(rf"^([ \t]*)(?:(?:pub|abbrev|unfoldable)[ \t]+)*({WORD}(?: {WORD})*)((?: \{{[^{{}}\n]*\}})*) :(?![:=])", re.M)
 # What begins a line that declares nothing of its own.
 OTHER = "let in where use module record data elim rw simp open infixl infixr infix λ".split()
-RECORD = re.compile(r"^([ \t]*)(?:(?:pub|abbrev|unfoldable)[ \t]+)*(?:record|data)[ \t]+(\S+)", re.M)
 USE = re.compile(r"^[ \t]*(?:pub |ghost )*use (Rattle\.(\w+)\.[^\s;{]*?)\.?(?:\{([^}]*)\})?(?: as (\S+?))?;?[ \t]*$", re.M)
 # A goal that Rattle makes, and so its name.
 MADE = re.compile(r"^\S+ : (?:tie|goal)\.")
