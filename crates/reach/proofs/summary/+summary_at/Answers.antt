@@ -1,26 +1,20 @@
 -- `summary::summary_at` meets its contract: each arm's facts go to the law of its kind. The depth that is left falls.
 use mathlib.Core.Path.{◌≡◌, refl, sym, ap, ◌∙◌, subst}
-use mathlib.Core.List.{List}
-use mathlib.Core.Logic.{◌≢◌, ◌⊎◌, inl, inr, ⊎_elim}
 use Prim.Native.Nat.{ℕ, ◌+◌, ◌-◌, ◌≤◌, ◌<◌}
 use native.Mathlib.Nat.{mod-lt}
 use native.Mathlib.Omega.{arith}
-use lib.ListN.{get_or, length}
+use lib.ListN.{get_or}
 use Rattle.esterel.specs.Codes.{code_of, just_at, just_code}
-use Rattle.table.specs.Reading.{kind_of_node, operand_of}
+use Rattle.table.specs.Reading.{operand_of}
 use Rattle.reach.specs.inner.Summaries.{outline}
-use Rattle.table.proofs.Places.{Node}
 use Rattle.reach.proofs.SummedNodes.{at_none, at_nothing, at_pause, at_gotopause, at_emit, at_exit, never_unknown, exit_level, enter_signal, enter_loop, enter_try, at_signal}
 use Rattle.reach.proofs.SummedNodes.{at_loop, at_try, present_splits, sequence_splits, parallel_splits, enter_first, enter_second, at_present, at_sequence, at_parallel}
+use Rattle.reach.proofs.There.{node_there, no_node_there}
 use Rattle.reach.proofs.summary.+summary_at.Goals as goal
-
--- the node that is there, by the tests before the decision
-node_there : {left : ℕ} {nodes : List ℕ} {at k kind : ℕ} → left ≢ 0 → length nodes ≡ 1024 → at < 1024 → kind ≡ kind_of_node (get_or nodes at 0) → kind ≡ k → Node left nodes at k
-node_there {left} {nodes} {at} {k} {kind} h l i e q = record { some = h; inside = omega arith; kind = sym e ∙ q }
 
 pub returns-then-left-eq0 : goal.returns-then-left-eq0
 returns-then-left-eq0 t c =
-    let beyond : (c.args.left ≡ 0) ⊎ (length c.args.nodes.now ≤ c.args.at) = ⊎_elim inl (λ w. inr (subst (λ (m : ℕ). m ≤ c.args.at) (sym c.requires.all) w.1)) c.then-left-eq0.either in
+    let beyond = no_node_there c.args.nodes.now c.requires.all c.then-left-eq0.either in
     at_none c.args.left c.args.nodes.now c.args.at c.of_nothing.result c.args.kept.now beyond c.of_nothing.ensures
 
 pub bounds-nodes-at : goal.bounds-nodes-at

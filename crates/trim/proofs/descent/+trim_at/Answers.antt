@@ -7,7 +7,7 @@ use native.Mathlib.Omega.{arith}
 use Rattle.table.proofs.Places.{Node}
 use Rattle.trim.specs.declared.descent.Around.{Around}
 use Rattle.trim.proofs.Parts.{sequence_fits, parallel_fits, loop_fits, try_fits}
-use Rattle.trim.proofs.Walk.{node_there, no_node_there}
+use Rattle.reach.proofs.There.{node_there, no_node_there}
 use Rattle.trim.proofs.Steps.{one_room}
 use Rattle.trim.proofs.ByKind.{at_none, at_dead, Stays, stays_here, at_nothing, leaf_room, pause_fits, at_pause, gotopause_fits, at_gotopause, emit_fits, at_emit}
 use Rattle.trim.proofs.ByKind.{exit_ready, level_fits, at_exit, the_signal, signal_ready, signal_fits, at_signal, the_loop, loop_ready, at_loop}

@@ -1,7 +1,7 @@
 -- `marks::mark_at` meets its contract: each arm is a law of Marking, at the node that the decision over its kind found.
 use mathlib.Core.Path.{refl}
 use native.Mathlib.Omega.{arith}
-use Rattle.trim.proofs.Walk.{node_there, no_node_there}
+use Rattle.reach.proofs.There.{node_there, no_node_there}
 use Rattle.trim.proofs.Marking.{found_nothing, mark_none, enter_first, enter_second, leaf_ready, note_fits, mark_leaf, mark_signal, mark_loop, mark_try, mark_two}
 use Prim.Native.Nat.{◌-◌, ◌≤◌, ◌<◌}
 use Rattle.trim.proofs.marks.+mark_at.Goals as goal
