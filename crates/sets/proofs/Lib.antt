@@ -2,3 +2,4 @@ pub mod Booleans
 pub mod Members
 pub mod Counts
 pub mod Words
+pub mod Lowest

@@ -1,1 +1,2 @@
 pub mod Set
+pub mod Passing

@@ -2,6 +2,8 @@
 #![tactic(auto)]
 
 ghost use Rattle.std.specs.Prelude.{◌≡◌, ◌≢◌, true, false, ℕ, ◌%◌, ◌^◌, ◌<◌};
+ghost use Rattle.std.specs.Iterator.{at_most};
+ghost use Rattle.sets.specs.Passing.{Gives};
 ghost use Rattle.sets.specs.Set.{has, only, ◌union◌, ◌without◌, ◌minus◌, count as count_below};
 
 // Whether the number is in the set.
@@ -58,4 +60,34 @@ pub fn count(set: u64) -> u8
     ensures { result ≡ count_below 64 set }
 {
     u64::count_ones(set) as u8
+}
+
+// The members of a set, rising: a `for` over a set goes through these.
+#[derive(Clone, Copy)]
+pub struct Rising {
+    pub rest: u64,
+}
+
+impl Iterator for Rising {
+    type Item = u8;
+
+    ghost next_gives = { λ before member after. Gives before.rest member after.rest };
+
+    ghost remaining = { λ left. at_most (count_below 64 left.rest) };
+
+    fn next(&mut self) -> Option<u8> {
+        if self.rest == 0 {
+            return None;
+        }
+        let member = least(self.rest);
+        // Without its lowest bit, which is the member's.
+        self.rest &= self.rest - 1;
+        Some(member)
+    }
+}
+
+pub fn each(set: u64) -> Rising
+    ensures { result.rest ≡ set }
+{
+    Rising { rest: set }
 }

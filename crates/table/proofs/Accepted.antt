@@ -10,8 +10,9 @@ use Rattle.sets.specs.Set.{has, only, ◌union◌, Apart}
 use Rattle.sets.proofs.Booleans.{clash}
 use Rattle.sets.proofs.Members.{has_empty, has_only_other, union_empty, apart_union, union_apart⁻, union_assoc}
 use Rattle.esterel.specs.Statement.{Statement, pauses, size, depth, Valid}
-use Rattle.table.specs.declared.Checked.{Checked}
-use Rattle.table.specs.declared.Checked.TheVariants.{Refused, Accepted}
+use Rattle.std.specs.Prelude.{Result, Ok, Err}
+use Rattle.table.specs.declared.Refusal.{Refusal}
+use Rattle.table.specs.Outcomes.{number_of_refusal}
 use Rattle.table.specs.Kinds.{kinds, kind_of}
 use Rattle.table.specs.Reading.{Reading, refused, read, with_one, with_two, read_kind, read_if, read_node, read_from, fault_of, header_of, nodes_of, deepest, Table, holds, whole_of, table_after, table_of}
 use Rattle.table.specs.Writing.{node, nodes}
@@ -163,7 +164,7 @@ read_faithful (suc left) tries used (x ∷ xs) p ys used' h =
 -- ---- A table
 -- what a table that is accepted holds
 pub record Holds (t : List ℕ) (n : ℕ) (p : Statement) : Type 0 where
-  pub counted : header_of t ≡ Accepted n
+  pub counted : header_of t ≡ Ok n
   pub header : Headed t n
   pub nodes_are : nodes_of t n ≡ nodes p
   pub count : size p ≡ n
@@ -178,7 +179,7 @@ pub accepted : (t : List ℕ) (n : ℕ) (p : Statement) → table_of t ≡ holds
 unfolding table_of table_after whole_of
 accepted t n p h = go (header_of t) refl h
   where
-    made : (m : ℕ) → header_of t ≡ Accepted m → (q : Statement) (u : ℕ) → ReadAs deepest 0 0 (nodes_of t m) q [] u → holds m q ≡ holds n p → Holds t n p
+    made : (m : ℕ) → header_of t ≡ Ok m → (q : Statement) (u : ℕ) → ReadAs deepest 0 0 (nodes_of t m) q [] u → holds m q ≡ holds n p → Holds t n p
     made m c q u a h =
         let same : q ≡ p = cc in
         let count : m ≡ n = cc in
@@ -193,11 +194,11 @@ accepted t n p h = go (header_of t) refl h
           deep = a.deep;
         })
 
-    whole : (m : ℕ) → header_of t ≡ Accepted m → (r : Reading) → read_from deepest 0 0 (nodes_of t m) ≡ r → whole_of m r ≡ holds n p → Holds t n p
+    whole : (m : ℕ) → header_of t ≡ Ok m → (r : Reading) → read_from deepest 0 0 (nodes_of t m) ≡ r → whole_of m r ≡ holds n p → Holds t n p
     whole m c (refused w) e h = absurd (never_holds w n p h)
     whole m c (read q [] u) e h = made m c q u (read_faithful deepest 0 0 (nodes_of t m) q [] u e) h
     whole m c (read q (y ∷ ys) u) e h = absurd (never_holds 11 n p h)
 
-    go : (c : Checked) → header_of t ≡ c → table_after c t ≡ holds n p → Holds t n p
-    go (Refused w) e h = absurd (never_holds w n p h)
-    go (Accepted m) e h = whole m e (read_from deepest 0 0 (nodes_of t m)) refl h
+    go : (c : Result ℕ Refusal) → header_of t ≡ c → table_after c t ≡ holds n p → Holds t n p
+    go (Err w) e h = absurd (never_holds (number_of_refusal w) n p h)
+    go (Ok m) e h = whole m e (read_from deepest 0 0 (nodes_of t m)) refl h

@@ -111,6 +111,12 @@ then_one true c d w = refl
 then_one false true d w = refl
 then_one false false d w = refl
 
+-- where one of the first two tests finds something, the others make no difference
+first_two : (b c d e : Bool) → (◌≡◌ {A = ℕ} (cond b 7 (cond c 8 0)) 0 → ⊥) → ◌≡◌ {A = ℕ} (cond b 7 (cond c 8 0)) (first_of false b c d e)
+first_two true c d e h = refl
+first_two false true d e h = refl
+first_two false false d e h = absurd (h refl)
+
 module _ (tries used : ℕ) {left x k o fault : ℕ} (f : Fields left x k o fault) where
   abbrev outside : Bool
   outside = ltb o (row_of (kind_of k)).least || ltb (row_of (kind_of k)).most o
@@ -119,20 +125,21 @@ module _ (tries used : ℕ) {left x k o fault : ℕ} (f : Fields left x k o faul
   unfolding fault_of
   tested = rw (← f.kind, ← f.operand, le-ltb 10 k f.known)
 
+  pub fault_first : (fault ≡ 0 → ⊥) → fault ≡ fault_of left tries used x
+  fault_first d =
+      f.first ∙ first_two outside (eqb left 0) (eqb k 4 && ltb tries o) (eqb k 1 && has used o) (λ z. d (f.first ∙ z)) ∙ sym tested
+
   pub fault_other : (k ≡ 1 → ⊥) → (k ≡ 4 → ⊥) → fault ≡ fault_of left tries used x
-  unfolding field_fault
   fault_other a b = f.first ∙ sym (tested ∙ rw (ne_eqb k 4 b, ne_eqb k 1 a))
 
   -- an exit's level, and a pause's label, are looked at where there is no fault before
   pub fault_exit : k ≡ 4 → (level why : ℕ) → level ≡ cond (ltb tries o) 9 0 → why ≡ cond (eqb fault 0) level fault → why ≡ fault_of left tries used x
-  unfolding field_fault
   fault_exit e level why h i =
       let other : k ≡ 1 → ⊥ = λ z. omega arith in
       let all : fault_of left tries used x ≡ cond outside 7 (cond (eqb left 0) 8 (cond (ltb tries o) 9 0)) = tested ∙ rw (eq-eqb k 4 e, ne_eqb k 1 other) in
       rw (all, i, h, f.first) (then_one outside (eqb left 0) (ltb tries o) 9)
 
   pub fault_pause : k ≡ 1 → (label why : ℕ) → label ≡ cond (has used o) 10 0 → why ≡ cond (eqb fault 0) label fault → why ≡ fault_of left tries used x
-  unfolding field_fault
   fault_pause e label why h i =
       let other : k ≡ 4 → ⊥ = λ z. omega arith in
       let all : fault_of left tries used x ≡ cond outside 7 (cond (eqb left 0) 8 (cond (has used o) 10 0)) = tested ∙ rw (ne_eqb k 4 other, eq-eqb k 1 e) in

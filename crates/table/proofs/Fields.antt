@@ -8,7 +8,8 @@ use lib.ListN.{length, take, drop, replicate, length-append, length-drop, take-a
 use lib.Seq.{take_at, drop_at, drop-drop, take-add, length-take-le}
 use lib.Pow.{pow_pos}
 use borrow.Author.Tests.{le-ltb, lt-ltb, eq-eqb, ne_eqb}
-use Rattle.table.specs.declared.Checked.TheVariants.{Refused, Accepted}
+use Rattle.std.specs.Prelude.{Ok, Err}
+use Rattle.table.specs.declared.Refusal.TheVariants.{Count}
 use Rattle.table.specs.Bits.{bits, number, bits_of, padded, bytes_of, Below}
 use Rattle.table.specs.Reading.{length_of, edition_of, count_of, padding_of, header_of, nodes_from, nodes_of}
 use Rattle.table.specs.Writing.{node_bits, write_nodes}
@@ -120,14 +121,14 @@ module _ (xs : List ℕ) (few : length xs < 4096) (fields : Below 1024 xs) where
       }
 
   -- with more than a table may have
-  pub crowded_written : 1024 < length xs → header_of (write_nodes xs) ≡ Refused 3
+  pub crowded_written : 1024 < length xs → header_of (write_nodes xs) ≡ Err Count
   unfolding header_of length_of
   crowded_written many =
       rw (count_written, le-ltb (length (write_nodes xs)) 2 (omega (arith, length_write_nodes xs)), eq-eqb (edition_of (write_nodes xs)) 1 edition_written, ne_eqb (length xs) 0 (λ e. omega arith), lt-ltb 1024 (length xs) many)
 
 -- ---- A table with a sound header
 
-pub headed_accepted : (t : List ℕ) (n : ℕ) → Headed t n → header_of t ≡ Accepted n
+pub headed_accepted : (t : List ℕ) (n : ℕ) → Headed t n → header_of t ≡ Ok n
 unfolding header_of
 headed_accepted t n H =
     rw (H.count, le-ltb (length t) 2 H.long, eq-eqb (edition_of t) 1 H.edition, ne_eqb n 0 (λ e. omega (arith, H.some)), le-ltb 1024 n H.few, eq-eqb (length t) (length_of n) H.whole, eq-eqb (padding_of t n) 0 H.padding)

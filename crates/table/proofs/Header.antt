@@ -12,14 +12,15 @@ use lib.Bits.{bit_and, and_mask, mask_lt}
 use lib.Pow.{pow-lt, pow_pos}
 use borrow.Author.Tests.{ltb-false, eqb-true, eqb-false, not-false, lt-ltb, le-ltb, eq-eqb, ne_eqb}
 use Rattle.sets.proofs.Booleans.{or_neither}
-use Rattle.table.specs.declared.Checked.{Checked}
-use Rattle.table.specs.declared.Checked.TheVariants.{Refused, Accepted}
+use Rattle.std.specs.Prelude.{Result, Ok, Err}
+use Rattle.table.specs.declared.Refusal.{Refusal}
+use Rattle.table.specs.declared.Refusal.TheVariants.{Short, Edition, Count, Length, Padding}
 use Rattle.table.specs.Reading.{length_of, edition_of, count_of, padding_of, header_of}
 use Rattle.table.specs.Bits.{Below}
 use Rattle.table.specs.inner.Loading.{word_at}
 use Rattle.table.proofs.Cutting.{cut_edition, cut_count, cut_padding, spare}
 
-pub never_accepted : (w n : ℕ) → Refused w ≡ Accepted n → ⊥
+pub never_accepted : (w : Refusal) (n : ℕ) → ◌≡◌ {A = Result ℕ Refusal} (Err w) (Ok n) → ⊥
 never_accepted w n h = let z : ◌≡◌ {A = ℕ} 0 1 = cc in omega arith
 
 -- a table of n nodes, as far as its header tells
@@ -33,18 +34,18 @@ pub record Headed (t : List ℕ) (n : ℕ) : Type 0 where
   pub padding : padding_of t n ≡ 0
 
 -- the tests of `header_of`
-abbrev tests : Bool → Bool → Bool → Bool → Bool → ℕ → Checked
-tests a b c d e n = cond a (Refused 1) (cond b (Refused 2) (cond c (Refused 3) (cond d (Refused 4) (cond e (Refused 5) (Accepted n)))))
+abbrev tests : Bool → Bool → Bool → Bool → Bool → ℕ → Result ℕ Refusal
+tests a b c d e n = cond a (Err Short) (cond b (Err Edition) (cond c (Err Count) (cond d (Err Length) (cond e (Err Padding) (Ok n)))))
 
-passed : (a b c d e : Bool) (m n : ℕ) → tests a b c d e m ≡ Accepted n → (a ≡ false) × (b ≡ false) × (c ≡ false) × (d ≡ false) × (e ≡ false) × (m ≡ n)
-passed true b c d e m n h = absurd (never_accepted 1 n h)
-passed false true c d e m n h = absurd (never_accepted 2 n h)
-passed false false true d e m n h = absurd (never_accepted 3 n h)
-passed false false false true e m n h = absurd (never_accepted 4 n h)
-passed false false false false true m n h = absurd (never_accepted 5 n h)
+passed : (a b c d e : Bool) (m n : ℕ) → tests a b c d e m ≡ Ok n → (a ≡ false) × (b ≡ false) × (c ≡ false) × (d ≡ false) × (e ≡ false) × (m ≡ n)
+passed true b c d e m n h = absurd (never_accepted Short n h)
+passed false true c d e m n h = absurd (never_accepted Edition n h)
+passed false false true d e m n h = absurd (never_accepted Count n h)
+passed false false false true e m n h = absurd (never_accepted Length n h)
+passed false false false false true m n h = absurd (never_accepted Padding n h)
 passed false false false false false m n h = (refl, refl, refl, refl, refl, cc)
 
-pub header_accepted : (t : List ℕ) (n : ℕ) → header_of t ≡ Accepted n → Headed t n
+pub header_accepted : (t : List ℕ) (n : ℕ) → header_of t ≡ Ok n → Headed t n
 unfolding header_of
 header_accepted t n h =
     let m = count_of t in
@@ -63,7 +64,7 @@ header_accepted t n h =
     }
 
 -- ---- The tests on words
-pub refused_short : (t : List ℕ) → length t < 2 → Refused 1 ≡ header_of t
+pub refused_short : (t : List ℕ) → length t < 2 → Err Short ≡ header_of t
 unfolding header_of
 refused_short t h = rw (lt-ltb (length t) 2 h)
 
@@ -112,28 +113,28 @@ module _ {t : List ℕ} {word : ℕ} (first : FirstWord t word) where
   pub count_read : counted ≡ cond (ltb (length t) 2) 0 (count_of t)
   count_read = rw (le-ltb (length t) 2 first.long) (sym count)
 
-  pub refused_edition : (word / 4096 ≡ 1 → ⊥) → Refused 2 ≡ header_of t
+  pub refused_edition : (word / 4096 ≡ 1 → ⊥) → Err Edition ≡ header_of t
   unfolding header_of
   refused_edition d = rw (le-ltb (length t) 2 first.long, edition, ne_eqb (word / 4096) 1 d)
 
   module _ (one : word / 4096 ≡ 1) where
-    pub refused_none : counted ≡ 0 → Refused 3 ≡ header_of t
+    pub refused_none : counted ≡ 0 → Err Count ≡ header_of t
     unfolding header_of
     refused_none z = rw (le-ltb (length t) 2 first.long, edition, eq-eqb (word / 4096) 1 one, count, eq-eqb counted 0 z)
 
     module _ (some : counted ≡ 0 → ⊥) where
-      pub refused_many : 1024 < counted → Refused 3 ≡ header_of t
+      pub refused_many : 1024 < counted → Err Count ≡ header_of t
       unfolding header_of
       refused_many l = rw (le-ltb (length t) 2 first.long, edition, eq-eqb (word / 4096) 1 one, count, ne_eqb counted 0 some, lt-ltb 1024 counted l)
 
       module _ (few : counted ≤ 1024) where
         counted_right : header_of t
-            ≡ cond (not (eqb (length t) (2 + (counted * 10 + 7) / 8))) (Refused 4) (cond (not (eqb (padding_of t counted) 0)) (Refused 5) (Accepted counted))
+            ≡ cond (not (eqb (length t) (2 + (counted * 10 + 7) / 8))) (Err Length) (cond (not (eqb (padding_of t counted) 0)) (Err Padding) (Ok counted))
         unfolding header_of
         counted_right =
             rw (le-ltb (length t) 2 first.long, edition, eq-eqb (word / 4096) 1 one, count, ne_eqb counted 0 some, le-ltb 1024 counted few, tens counted)
 
-        pub refused_length : (length t ≡ 2 + (counted * 10 + 7) / 8 → ⊥) → Refused 4 ≡ header_of t
+        pub refused_length : (length t ≡ 2 + (counted * 10 + 7) / 8 → ⊥) → Err Length ≡ header_of t
         refused_length d = rw (counted_right, ne_eqb (length t) (2 + (counted * 10 + 7) / 8) d)
 
         module _ (whole : length t ≡ 2 + (counted * 10 + 7) / 8) where
@@ -143,8 +144,8 @@ module _ {t : List ℕ} {word : ℕ} (first : FirstWord t word) where
           padding : padding_of t counted ≡ spare_bits
           padding = cut_padding t counted (whole ∙ sym (tens counted)) ∙ sym (pad_mask (get_or t (length t - 1) 0) counted)
 
-          pub refused_padding : (spare_bits ≡ 0 → ⊥) → Refused 5 ≡ header_of t
+          pub refused_padding : (spare_bits ≡ 0 → ⊥) → Err Padding ≡ header_of t
           refused_padding d = rw (counted_right, eq-eqb (length t) (2 + (counted * 10 + 7) / 8) whole, padding, ne_eqb spare_bits 0 d)
 
-          pub header_passed : spare_bits ≡ 0 → Accepted counted ≡ header_of t
+          pub header_passed : spare_bits ≡ 0 → Ok counted ≡ header_of t
           header_passed z = rw (counted_right, eq-eqb (length t) (2 + (counted * 10 + 7) / 8) whole, padding, eq-eqb spare_bits 0 z)

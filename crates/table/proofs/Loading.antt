@@ -7,10 +7,11 @@ use native.Mathlib.Omega.{arith}
 use lib.ListN.{length, take, drop, replicate, get_or, length-append, length-drop, get_or-append}
 use lib.Seq.{take_at, get_or-drop}
 use Rattle.esterel.specs.Statement.{Statement, nothing, pause, gotopause, emit, exit, signal, present, sequence, parallel, loop, try, size, depth, Valid}
-use Rattle.table.specs.declared.Checked.{Checked}
-use Rattle.table.specs.declared.Checked.TheVariants.{Refused, Accepted}
+use Rattle.std.specs.Prelude.{Result, Ok, Err}
+use Rattle.table.specs.declared.Refusal.{Refusal}
 use Rattle.table.specs.Reading.{Reading, refused, read, read_from, header_of, nodes_of, deepest, kind_of_node, operand_of, Table, holds, whole_of, table_after, table_of, checked_outcome, check_in, check_of}
-use Rattle.table.specs.Outcomes.{refusal, values, number_of}
+use Rattle.table.specs.declared.Refusal.TheVariants.{Short, Edition, Count, Length, Padding, Kind, Operand, Depth, Level, Label, Shape, Size, Room, Nesting, Crowded, Places, Free, Grammar, Number}
+use Rattle.table.specs.Outcomes.{refusal, values, number_of_refusal}
 use Rattle.table.specs.inner.Loading.{loaded_after, loaded_of, Walked}
 use Rattle.table.specs.Writing.{node, nodes}
 use Rattle.table.specs.inner.Places.{Placed, placed, statement_at, statement_of, Known, Loaded}
@@ -18,36 +19,64 @@ use Rattle.table.proofs.Cutting.{length_nodes_of}
 use Rattle.table.proofs.Accepted.{read_faithful, Holds, accepted}
 use Rattle.table.proofs.Places.{placed_front}
 
+-- no refusal has the number 0
+pub number_some : (e : Refusal) → 1 ≤ number_of_refusal e
+number_some e =
+    elim e as (λ (e : Refusal). 1 ≤ number_of_refusal e) [
+      | Short ↦ omega arith
+      | Edition ↦ omega arith
+      | Count ↦ omega arith
+      | Length ↦ omega arith
+      | Padding ↦ omega arith
+      | Kind ↦ omega arith
+      | Operand ↦ omega arith
+      | Depth ↦ omega arith
+      | Level ↦ omega arith
+      | Label ↦ omega arith
+      | Shape ↦ omega arith
+      | Size ↦ omega arith
+      | Room ↦ omega arith
+      | Nesting ↦ omega arith
+      | Crowded ↦ omega arith
+      | Places ↦ omega arith
+      | Free ↦ omega arith
+      | Grammar ↦ omega arith
+      | Number ↦ omega arith
+    ]
+
 -- ---- The walk over all nodes from a place to another
 module _ (from to : ℕ) (xs : List ℕ) (below : from ≤ to) (count : length xs ≡ to - from) (r at used : ℕ) where
   abbrev whole : Reading
   whole = read_from deepest 0 0 xs
 
   module _ (h : Walked to whole r at used) where
-    pub whole_refused : (r ≡ 0 → ⊥) → checked_outcome (Refused r) ≡ check_in (whole_of (to - from) whole)
-    unfolding whole_of check_in checked_outcome
-    whole_refused d = go whole h
+    pub whole_refused : (e : Refusal) → number_of_refusal e ≡ r → checked_outcome (Err e) ≡ check_in (whole_of (to - from) whole)
+    unfolding whole_of check_in
+    whole_refused e i = go whole h
       where
-        go : (q : Reading) → Walked to q r at used → checked_outcome (Refused r) ≡ check_in (whole_of (to - from) q)
-        go (refused w) g = ap refusal g.0
-        go (read p [] u) g = absurd (d g.0)
-        go (read p (y ∷ ys) u) g = absurd (d g.0)
+        some : r ≡ 0 → ⊥
+        some z = let k = number_some e in omega arith
+
+        go : (q : Reading) → Walked to q r at used → checked_outcome (Err e) ≡ check_in (whole_of (to - from) q)
+        go (refused w) g = ap refusal (i ∙ g.0)
+        go (read p [] u) g = absurd (some g.0)
+        go (read p (y ∷ ys) u) g = absurd (some g.0)
 
     module _ (z : r ≡ 0) where
-      pub whole_over : (at ≡ to → ⊥) → checked_outcome (Refused 11) ≡ check_in (whole_of (to - from) whole)
-      unfolding whole_of check_in checked_outcome
+      pub whole_over : (at ≡ to → ⊥) → checked_outcome (Err Shape) ≡ check_in (whole_of (to - from) whole)
+      unfolding whole_of check_in
       whole_over d = go whole h
         where
-          go : (q : Reading) → Walked to q r at used → checked_outcome (Refused 11) ≡ check_in (whole_of (to - from) q)
+          go : (q : Reading) → Walked to q r at used → checked_outcome (Err Shape) ≡ check_in (whole_of (to - from) q)
           go (refused w) g = absurd (let (e, l) = g in omega arith)
           go (read p [] u) g = absurd (d (let e = g.1 in omega arith))
           go (read p (y ∷ ys) u) g = refl
 
-      pub whole_read : at ≡ to → checked_outcome (Accepted (to - from)) ≡ check_in (whole_of (to - from) whole)
-      unfolding whole_of check_in checked_outcome
+      pub whole_read : at ≡ to → checked_outcome (Ok (to - from)) ≡ check_in (whole_of (to - from) whole)
+      unfolding whole_of check_in
       whole_read e = go whole refl h
         where
-          go : (q : Reading) → whole ≡ q → Walked to q r at used → checked_outcome (Accepted (to - from)) ≡ check_in (whole_of (to - from) q)
+          go : (q : Reading) → whole ≡ q → Walked to q r at used → checked_outcome (Ok (to - from)) ≡ check_in (whole_of (to - from) q)
           go (refused w) i g = absurd (let (e, l) = g in omega arith)
           go (read p [] u) i g = refl
           go (read p (y ∷ ys) u) i g =
@@ -58,11 +87,11 @@ module _ (from to : ℕ) (xs : List ℕ) (below : from ≤ to) (count : length x
               absurd (omega arith)
 
 -- ---- The header refuses, or accepts n nodes
-pub load_refused : (t old : List ℕ) (h : Checked) (w : ℕ) → h ≡ header_of t → h ≡ Refused w → (checked_outcome h ≡ check_of t) × (old ≡ loaded_of t old)
-unfolding check_of table_of table_after check_in checked_outcome loaded_of loaded_after
+pub load_refused : (t old : List ℕ) (h : Result ℕ Refusal) (w : Refusal) → h ≡ header_of t → h ≡ Err w → (checked_outcome (Err w) ≡ check_of t) × (old ≡ loaded_of t old)
+unfolding check_of table_of table_after check_in loaded_of loaded_after
 load_refused t old h w e r = (rw (← e, r), rw (← e, r))
 
-pub load_walked : (t old new : List ℕ) (n : ℕ) (r : Checked) → header_of t ≡ Accepted n → new ≡ nodes_of t n ++ drop n old
+pub load_walked : (t old new : List ℕ) (n : ℕ) (r : Result ℕ Refusal) → header_of t ≡ Ok n → new ≡ nodes_of t n ++ drop n old
     → checked_outcome r ≡ check_in (whole_of (n - 0) (read_from deepest 0 0 (drop 0 (take n new)))) → (checked_outcome r ≡ check_of t) × (new ≡ loaded_of t old)
 unfolding check_of table_of table_after loaded_of loaded_after
 load_walked t old new n r h e a =
@@ -160,18 +189,18 @@ module _ (t old : List ℕ) (n : ℕ) (p : Statement) (h : table_of t ≡ holds 
       }
 
 -- ---- What load leaves, by its answer: what the operations over a table begin with
-module _ (t old new : List ℕ) (c : Checked) (h : (checked_outcome c ≡ check_of t) × (new ≡ loaded_of t old)) where
-  pub load_refuses : (w x : ℕ) → c ≡ Refused w → x ≡ number_of (checked_outcome c) → table_of t ≡ Table.refused x
-  unfolding check_of check_in checked_outcome number_of
-  load_refuses w x e f = go (table_of t) refl (ap checked_outcome (sym e) ∙ h.0)
+module _ (t old new : List ℕ) (c : Result ℕ Refusal) (h : (checked_outcome c ≡ check_of t) × (new ≡ loaded_of t old)) where
+  pub load_refuses : (e : Refusal) → c ≡ Err e → table_of t ≡ Table.refused (number_of_refusal e)
+  unfolding check_of check_in
+  load_refuses e f = go (table_of t) refl (ap checked_outcome (sym f) ∙ h.0)
     where
-      go : (T : Table) → table_of t ≡ T → refusal w ≡ check_in T → table_of t ≡ Table.refused x
-      go (Table.refused v) i q = let same : x ≡ w = f ∙ ap (λ a. number_of (checked_outcome a)) e in let back : v ≡ w = cc in i ∙ ap Table.refused (back ∙ sym same)
+      go : (T : Table) → table_of t ≡ T → refusal (number_of_refusal e) ≡ check_in T → table_of t ≡ Table.refused (number_of_refusal e)
+      go (Table.refused v) i q = i ∙ ap Table.refused (let back : v ≡ number_of_refusal e = cc in back)
       go (holds n p) i q = absurd (let z : ◌≡◌ {A = ℕ} 0 1 = cc in omega arith)
 
-  module _ (n : ℕ) (e : c ≡ Accepted n) where
+  module _ (n : ℕ) (e : c ≡ Ok n) where
     pub load_holds : (p : Statement) × (table_of t ≡ holds n p)
-    unfolding check_of check_in checked_outcome
+    unfolding check_of check_in
     load_holds = go (table_of t) refl (ap checked_outcome (sym e) ∙ h.0)
       where
         go : (T : Table) → table_of t ≡ T → values (n ∷ []) ≡ check_in T → (p : Statement) × (table_of t ≡ holds n p)

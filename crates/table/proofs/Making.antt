@@ -37,14 +37,12 @@ orderly unused = record { some = omega arith; six_bits = omega arith }
 module _ (row : Row) (o : ℕ) where
   -- the bounds of a range, and an operand, stay in it
   pub in_range_lem : row.least ≤ row.most → (row.least ≤ in_range row o) × (in_range row o ≤ row.most)
-  unfolding in_range
   in_range_lem h =
       by_cond (λ (n : ℕ). (row.least ≤ n) × (n ≤ row.most)) (ltb o row.least) row.least (cond (ltb row.most o) row.most o) (λ e. (omega arith, h))
       (λ e. by_cond (λ (n : ℕ). (row.least ≤ n) × (n ≤ row.most)) (ltb row.most o) row.most o (λ f. (h, omega arith))
       (λ f. (ltb-false o row.least e, ltb-false row.most o f)))
 
   pub in_range_same : row.least ≤ o → o ≤ row.most → in_range row o ≡ o
-  unfolding in_range
   in_range_same l m = rw (le-ltb o row.least l, le-ltb row.most o m)
 
 module _ (k o : ℕ) where
@@ -71,3 +69,19 @@ module _ (k o : ℕ) where
   pub node_of_same : row.least ≤ o → o ≤ row.most → node_of k o ≡ node k o
   unfolding node_of
   node_of_same l m = ap (node k) (in_range_same row o l m)
+
+-- each kind's smallest operand is at most its largest
+pub ranged : (k : Kind) → (row_of k).least ≤ (row_of k).most
+unfolding row_of
+ranged nothing = omega arith
+ranged pause = omega arith
+ranged gotopause = omega arith
+ranged emit = omega arith
+ranged exit = omega arith
+ranged signal = omega arith
+ranged present = omega arith
+ranged sequence = omega arith
+ranged parallel = omega arith
+ranged loop = omega arith
+ranged try = omega arith
+ranged unused = omega arith

@@ -141,15 +141,22 @@ written_more xs out₀ out at i word W P four G =
       place = omega (arith, P.place);
     }
 
+-- the same, by how many times four nodes were written
+pub written_four : (xs out₀ out : List ℕ) (four word : ℕ) → Writable xs (length out₀) → Written xs out₀ out (2 + 5 * four) (4 * four) → four < length xs / 4
+    → Gathered (take 4 (drop (4 * four) xs)) 4 word → Written xs out₀ (paste out (2 + 5 * four) (bytes 5 word) 5) (2 + 5 * (four + 1)) (4 * (four + 1))
+written_four xs out₀ out four word W P h G =
+    let bytes_more : 2 + 5 * four + 5 ≡ 2 + 5 * (four + 1) = omega arith in
+    let nodes_more : 4 * four + 4 ≡ 4 * (four + 1) = omega arith in
+    rw (← bytes_more, ← nodes_more) (written_more xs out₀ out (2 + 5 * four) (4 * four) word W P (omega arith) G)
+
 -- the last nodes, pushed up to whole bytes
-pub written_all : (xs out₀ out : List ℕ) (at i word total : ℕ) → Writable xs (length out₀) → Written xs out₀ out at i → length xs - i < 4
-    → Gathered (take (length xs - i) (drop i xs)) (length xs - i) word → total ≡ length_of (length xs)
+pub written_all : (xs out₀ out : List ℕ) (at i left word total : ℕ) → Writable xs (length out₀) → Written xs out₀ out at i → i + left ≡ length xs
+    → left < 4 → Gathered (take left (drop i xs)) left word → total ≡ length_of (length xs)
     → (total ≡ length (write_nodes xs))
-    × (paste out at (bytes (total - at) (word * 2 ^ (8 * (total - at) - 10 * (length xs - i)) % 18446744073709551616)) (total - at)
+    × (paste out at (bytes (total - at) (word * 2 ^ (8 * (total - at) - 10 * left) % 18446744073709551616)) (total - at)
     ≡ write_nodes xs ++ drop total out₀)
 unfolding length_of
-written_all xs out₀ out at i word total W P few G e =
-    let left : ℕ = length xs - i in
+written_all xs out₀ out at i left word total W P all few G e =
     let size : ℕ = total - at in
     let whole : size ≡ (10 * left + 7) / 8 = omega (arith, P.place) in
     let end : at + size ≡ total = omega (arith, P.place) in

@@ -9,9 +9,10 @@ use lib.Dec.{eqb, ltb}
 use lib.ListN.{length}
 use Rattle.sets.specs.Set.{has}
 use Rattle.esterel.specs.Statement.{Statement}
-use Rattle.table.specs.declared.Checked.{Checked}
-use Rattle.table.specs.declared.Checked.TheVariants.{Refused, Accepted}
-use Rattle.table.specs.Outcomes.{Outcome, refusal, values, number_of}
+use Rattle.std.specs.Prelude.{Result, Ok, Err}
+use Rattle.table.specs.declared.Refusal.{Refusal}
+use Rattle.table.specs.declared.Refusal.TheVariants.{Short, Edition, Count, Length, Padding}
+use Rattle.table.specs.Outcomes.{Outcome, refusal, values, number_of_refusal, number_of}
 use Rattle.table.specs.Kinds.{Kind, kind_of, row_of}
 use Rattle.table.specs.Reading.{length_of, edition_of, count_of, padding_of, header_of, kind_of_node, operand_of, fault_of, Reading, refused, read, with_one, with_two, read_kind, read_if, read_node, read_from, nodes_of, deepest, Table, holds, whole_of, table_after, table_of, check_in, check_of}
 
@@ -20,9 +21,9 @@ abbrev pub OfCheck : ℕ → Type 0
 OfCheck w = (1 ≤ w) × (w ≤ 11)
 
 -- ---- The header
-abbrev Heads : Checked → Type 0
-Heads (Refused w) = OfCheck w
-Heads (Accepted n) = Unit {0}
+abbrev Heads : Result ℕ Refusal → Type 0
+Heads (Err w) = OfCheck (number_of_refusal w)
+Heads (Ok n) = Unit {0}
 
 header_refusals : (t : List ℕ) → Heads (header_of t)
 unfolding header_of
@@ -30,7 +31,7 @@ header_refusals t =
     go (ltb (length t) 2) (not (eqb (edition_of t) 1)) (eqb (count_of t) 0 || ltb 1024 (count_of t)) (not (eqb (length t) (length_of (count_of t))))
     (not (eqb (padding_of t (count_of t)) 0)) (count_of t)
   where
-    go : (a b c d e : Bool) (n : ℕ) → Heads (cond a (Refused 1) (cond b (Refused 2) (cond c (Refused 3) (cond d (Refused 4) (cond e (Refused 5) (Accepted n))))))
+    go : (a b c d e : Bool) (n : ℕ) → Heads (cond a (Err Short) (cond b (Err Edition) (cond c (Err Count) (cond d (Err Length) (cond e (Err Padding) (Ok n))))))
     go true b c d e n = (omega arith, omega arith)
     go false true c d e n = (omega arith, omega arith)
     go false false true d e n = (omega arith, omega arith)
@@ -116,9 +117,9 @@ table_refusals t w h = go (header_of t) (header_refusals t) h
     whole n (read p [] used) b e = absurd (never n p e)
     whole n (read p (x ∷ xs) used) b e = same 11 (omega arith, omega arith) e
 
-    go : (c : Checked) → Heads c → table_after c t ≡ Table.refused w → OfCheck w
-    go (Refused v) b e = same v b e
-    go (Accepted n) b e = whole n (read_from deepest 0 0 (nodes_of t n)) (read_refusals deepest 0 0 (nodes_of t n)) e
+    go : (c : Result ℕ Refusal) → Heads c → table_after c t ≡ Table.refused w → OfCheck w
+    go (Err v) b e = same (number_of_refusal v) b e
+    go (Ok n) b e = whole n (read_from deepest 0 0 (nodes_of t n)) (read_refusals deepest 0 0 (nodes_of t n)) e
 
 -- of check's answer, and that a returned 0 means accepted
 pub check_refusals : (t : List ℕ) (w : ℕ) → check_of t ≡ refusal w → OfCheck w

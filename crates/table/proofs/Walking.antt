@@ -185,14 +185,14 @@ module _ {n : ℕ} {xs : List ℕ} {left tries at used x k : ℕ} (f : At n xs l
         go (one g c e) = gone (with_one first g) r at' used' (by_kind z ∙ e) (walked_one n first g r at' used' (stops first h))
         go (two g c e) = gone (with_two first (below inside) g) r at' used' (by_kind z ∙ e) (both first g h)
 
-    pub walk_only : (r at' used' : ℕ) → children k ≡ 1 → WalkedAt n xs (left - 1) inside (at + 1) used r at' used' → Goes r at' used'
+    pub walk_only : (r at' used' : ℕ) → (children k ≡ 2 → ⊥) → WalkedAt n xs (left - 1) inside (at + 1) used r at' used' → Goes r at' used'
     walk_only r at' used' c h = go shaped
       where
         go : Shape (x % 64) below tries used rest k inside → Goes r at' used'
         go (one g c e) = gone (with_one first g) r at' used' (by_kind z ∙ e) (walked_one n first g r at' used' h)
-        go (two g d e) = absurd (omega arith)
+        go (two g d e) = absurd (c d)
 
-    pub walk_second : (r at' used' r' next labels : ℕ) → (children k ≡ 1 → ⊥) → r' ≡ 0 → WalkedAt n xs (left - 1) inside (at + 1) used r' next labels
+    pub walk_second : (r at' used' r' next labels : ℕ) → children k ≡ 2 → r' ≡ 0 → WalkedAt n xs (left - 1) inside (at + 1) used r' next labels
         → WalkedAt n xs (left - 1) inside next labels r at' used' → Goes r at' used'
     walk_second r at' used' r' next labels c none h j = go shaped
       where
@@ -207,5 +207,5 @@ module _ {n : ℕ} {xs : List ℕ} {left tries at used x k : ℕ} (f : At n xs l
             (subst (λ (v : ℕ). Walked n (below inside v (drop next xs)) r at' used') m.2 j))
 
         go : Shape (x % 64) below tries used rest k inside → Goes r at' used'
-        go (one g d e) = absurd (c d)
+        go (one g d e) = absurd (omega arith)
         go (two g d e) = gone (with_two first (below inside) g) r at' used' (by_kind z ∙ e) (both first g refl h)

@@ -1,11 +1,39 @@
--- What an operation answers, counted as document 01 counts it. Each enum of an answer has one definition that gives this for each
--- of its cases; the promise of the operation and that of its entry for C cite it.
-use Rattle.std.specs.Prelude.{cond, List, [], ◌∷◌, ◌++◌, ℕ, ltb, length, drop, get_or}
+-- What an operation answers, counted as document 01 counts it: the promise of each operation, and that of its entry for C, cite it.
+use Rattle.std.specs.Prelude.{cond, Result, Ok, Err, List, [], ◌∷◌, ◌++◌, ℕ, ltb, length, drop, get_or}
+use Rattle.table.specs.declared.Refusal.{Refusal}
+use Rattle.table.specs.declared.Refusal.TheVariants.{Short, Edition, Count, Length, Padding, Kind, Operand, Depth, Level, Label, Shape, Size, Room, Nesting, Crowded, Places, Free, Grammar, Number}
 
 -- "Every refusal is a number and nothing else"; an accepted call has values
 pub data Outcome : Type 0 where
   refusal : ℕ → Outcome
   values : List ℕ → Outcome
+
+-- document 01's numbers of the refusals
+abbrev pub number_of_refusal : Refusal → ℕ
+number_of_refusal Short = 1
+number_of_refusal Edition = 2
+number_of_refusal Count = 3
+number_of_refusal Length = 4
+number_of_refusal Padding = 5
+number_of_refusal Kind = 6
+number_of_refusal Operand = 7
+number_of_refusal Depth = 8
+number_of_refusal Level = 9
+number_of_refusal Label = 10
+number_of_refusal Shape = 11
+number_of_refusal Size = 12
+number_of_refusal Room = 13
+number_of_refusal Nesting = 14
+number_of_refusal Crowded = 15
+number_of_refusal Places = 16
+number_of_refusal Free = 17
+number_of_refusal Grammar = 18
+number_of_refusal Number = 19
+
+-- what an operation answers, by the values of what it gives where it accepts
+abbrev pub outcome : {A : Type 0} → (A → List ℕ) → Result A Refusal → Outcome
+outcome of (Err e) = refusal (number_of_refusal e)
+outcome of (Ok a) = values (of a)
 
 -- what an entry for C returns: the number of the refusal, or 0
 unfoldable pub number_of : Outcome → ℕ

@@ -1,11 +1,11 @@
 -- Reading a table: any list of bytes is refused with a number from 1 to 11, or is the table of a statement.
 -- In three parts: the header, the bytes to nodes, the nodes to a statement.
-use Rattle.std.specs.Prelude.{ℕ, zero, suc, ◌+◌, ◌*◌, ◌/◌, ◌%◌, cond, not, ◌||◌, ◌&&◌, List, [], ◌∷◌, eqb, ltb, length, take, drop}
+use Rattle.std.specs.Prelude.{Result, Ok, Err, ℕ, zero, suc, ◌+◌, ◌*◌, ◌/◌, ◌%◌, cond, not, ◌||◌, ◌&&◌, List, [], ◌∷◌, eqb, ltb, length, take, drop}
 use Rattle.sets.specs.Set.{has, only, ◌union◌}
 use Rattle.esterel.specs.Statement.{Statement}
-use Rattle.table.specs.declared.Checked.{Checked}
-use Rattle.table.specs.declared.Checked.TheVariants.{Refused, Accepted}
-use Rattle.table.specs.Outcomes.{Outcome, refusal, values}
+use Rattle.table.specs.declared.Refusal.{Refusal}
+use Rattle.table.specs.declared.Refusal.TheVariants.{Short, Edition, Count, Length, Padding}
+use Rattle.table.specs.Outcomes.{Outcome, refusal, values, number_of_refusal, outcome}
 use Rattle.table.specs.Bits.{number, bits_of}
 use Rattle.table.specs.Kinds.{Kind, kind_of, row_of}
 
@@ -26,14 +26,14 @@ unfoldable pub padding_of : List ℕ → ℕ → ℕ
 padding_of t n = number (drop (16 + 10 * n) (bits_of t))
 
 -- "1 under 2 bytes; 2 edition other than 1; 3 N out of range; 4 wrong length; 5 a padding bit set"; else N
-unfoldable pub header_of : List ℕ → Checked
+unfoldable pub header_of : List ℕ → Result ℕ Refusal
 header_of t =
-    cond (ltb (length t) 2) (Refused 1)
-    (cond (not (eqb (edition_of t) 1)) (Refused 2)
-    (cond (eqb (count_of t) 0 || ltb 1024 (count_of t)) (Refused 3)
-    (cond (not (eqb (length t) (length_of (count_of t)))) (Refused 4)
-    (cond (not (eqb (padding_of t (count_of t)) 0)) (Refused 5)
-    (Accepted (count_of t))))))
+    cond (ltb (length t) 2) (Err Short)
+    (cond (not (eqb (edition_of t) 1)) (Err Edition)
+    (cond (eqb (count_of t) 0 || ltb 1024 (count_of t)) (Err Count)
+    (cond (not (eqb (length t) (length_of (count_of t)))) (Err Length)
+    (cond (not (eqb (padding_of t (count_of t)) 0)) (Err Padding)
+    (Ok (count_of t))))))
 
 -- ---- Bytes to nodes
 
@@ -126,17 +126,16 @@ whole_of n (Reading.refused w) = Table.refused w
 whole_of n (read p [] used) = holds n p
 whole_of n (read p (x ∷ xs) used) = Table.refused 11
 
-unfoldable pub table_after : Checked → List ℕ → Table
-table_after (Refused w) t = Table.refused w
-table_after (Accepted n) t = whole_of n (read_from deepest 0 0 (nodes_of t n))
+unfoldable pub table_after : Result ℕ Refusal → List ℕ → Table
+table_after (Err e) t = Table.refused (number_of_refusal e)
+table_after (Ok n) t = whole_of n (read_from deepest 0 0 (nodes_of t n))
 
 unfoldable pub table_of : List ℕ → Table
 table_of t = table_after (header_of t) t
 
--- what is said of an answer of check, case by case: the refusal, or N
-unfoldable pub checked_outcome : Checked → Outcome
-checked_outcome (Refused w) = refusal w
-checked_outcome (Accepted n) = values (n ∷ [])
+-- what is said of an answer of check: the refusal, or N
+abbrev pub checked_outcome : Result ℕ Refusal → Outcome
+checked_outcome = outcome (λ n. n ∷ [])
 
 -- "Accepted: N"
 unfoldable pub check_in : Table → Outcome

@@ -1,8 +1,8 @@
-// The kinds of nodes, and a node's kind and operand.
+// The kinds of nodes, and a node's kind and operand. Kinds are numbers, since document 01 asks each pass for one decision over the
+// kinds 0 to 10 with 11 to 15 as a refused range.
 ghost use Rattle.std.specs.Prelude.{◌≡◌};
 ghost use Rattle.table.specs.Kinds.{kind_of, row_of};
 ghost use Rattle.table.specs.Reading.{kind_of_node, operand_of};
-ghost use Rattle.table.specs.inner.Loading.{unpacked, Rows};
 
 use crate::Row;
 
@@ -29,52 +29,98 @@ pub const LOOP: u16 = 9;
 
 pub const TRY: u16 = 10;
 
-// "Each kind fixes its operand's range and its children": by the number of the kind its largest operand, its smallest
-// operand and its children, a byte each.
-pub const KINDS: [u32; 16] = [
-    0x00_00_00, // nothing
-    0x3f_01_00, // pause
-    0x3f_01_00, // gotopause
-    0x1f_00_00, // emit
-    0x3f_01_00, // exit
-    0x1f_00_01, // signal
-    0x1f_00_02, // present
-    0x00_00_02, // sequence
-    0x00_00_02, // parallel
-    0x00_00_01, // loop
-    0x00_00_01, // try
-    0x00_00_00, // 11 to 15, which are refused
-    0x00_00_00, 0x00_00_00, 0x00_00_00, 0x00_00_00,
+// "Each kind fixes its operand's range and its children", by the number of the kind. A static, since a constant would be laid out
+// anew at every use.
+static KINDS: [Row; 16] = [
+    // nothing
+    Row {
+        children: 0,
+        least: 0,
+        most: 0,
+    },
+    // pause
+    Row {
+        children: 0,
+        least: 1,
+        most: 63,
+    },
+    // gotopause
+    Row {
+        children: 0,
+        least: 1,
+        most: 63,
+    },
+    // emit
+    Row {
+        children: 0,
+        least: 0,
+        most: 31,
+    },
+    // exit
+    Row {
+        children: 0,
+        least: 1,
+        most: 63,
+    },
+    // signal
+    Row {
+        children: 1,
+        least: 0,
+        most: 31,
+    },
+    // present
+    Row {
+        children: 2,
+        least: 0,
+        most: 31,
+    },
+    // sequence
+    Row {
+        children: 2,
+        least: 0,
+        most: 0,
+    },
+    // parallel
+    Row {
+        children: 2,
+        least: 0,
+        most: 0,
+    },
+    // loop
+    Row {
+        children: 1,
+        least: 0,
+        most: 0,
+    },
+    // try
+    Row {
+        children: 1,
+        least: 0,
+        most: 0,
+    },
+    // 11 to 15, which are refused
+    UNUSED,
+    UNUSED,
+    UNUSED,
+    UNUSED,
+    UNUSED,
 ];
 
-fn unpack(word: u32) -> Row
-    ensures { result ≡ unpacked word }
-{
-    Row {
-        children: (word & 0xff) as u8,
-        least: (word >> 8 & 0xff) as u8,
-        most: (word >> 16 & 0xff) as u8,
-    }
-}
-
-// What a kind fixes, out of a copy of the table: a walk that read the constant itself would lay it out anew at every node.
-pub fn row_in(rows: &[u32; 16], kind: u16) -> Row
-    requires { Rows rows.now }
-    ensures { result ≡ row_of (kind_of kind) }
-{
-    if kind < 16 {
-        unpack(rows[kind as usize])
-    } else {
-        unpack(0)
-    }
-}
+const UNUSED: Row = Row {
+    children: 0,
+    least: 0,
+    most: 0,
+};
 
 // What a kind fixes.
 pub fn row_of(kind: u16) -> Row
     ensures { result ≡ row_of (kind_of kind) }
 {
-    let rows = KINDS;
-    row_in(&rows, kind)
+    if kind < 16 {
+        KINDS[kind as usize]
+    } else {
+        UNUSED
+    }
 }
 
 // "4 bits kind, 6 bits operand"

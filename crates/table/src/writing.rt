@@ -13,15 +13,10 @@ const EDITION: u64 = 1;
 
 // The operand, or the nearest in the range of a kind.
 fn in_range(row: Row, operand: u8) -> u8
+    requires { row.least ≤ row.most }
     ensures { result ≡ in_range row operand }
 {
-    if operand < row.least {
-        return row.least;
-    }
-    if operand > row.most {
-        return row.most;
-    }
-    operand
+    operand.clamp(row.least, row.most)
 }
 
 // A node of the kind. Whatever the operand, it stays in the kind's range and out of the kind's bits.
@@ -46,10 +41,8 @@ pub fn put_bytes(out: &mut [u8], at: usize, word: u64, count: usize)
     requires { (count ≤ 8) × (at + count ≤ length out.old) }
     ensures { out.new ≡ paste out.old at (bytes count word) count }
 {
-    let mut i = 0;
-    while i < count {
+    for i in 0..count {
         out[at + i] = byte_of(word, 8 * (count - i - 1));
-        i += 1;
     }
 }
 
@@ -59,10 +52,8 @@ fn gather(nodes: &[u16], from: usize, count: usize) -> u64
     ensures { Gathered (take count (drop from nodes.now)) count result }
 {
     let mut word: u64 = 0;
-    let mut i = 0;
-    while i < count {
-        word = word << 10 | nodes[from + i] as u64;
-        i += 1;
+    for node in &nodes[from..from + count] {
+        word = word << 10 | *node as u64;
     }
     word
 }
@@ -83,17 +74,15 @@ pub fn write_nodes(nodes: &[u16], out: &mut [u8]) -> usize
     let count = nodes.len();
     let total = length_of(count);
     put_bytes(out, 0, count as u64 | EDITION << 12, 2);
-    let mut at = 2;
-    let mut i = 0;
-    while 4 <= count - i {
-        let word = gather(nodes, i, 4);
-        put_bytes(out, at, word, 5);
-        at += 5;
-        i += 4;
+    let fours = count / 4;
+    for four in 0..fours {
+        let word = gather(nodes, 4 * four, 4);
+        put_bytes(out, 2 + 5 * four, word, 5);
     }
-    let left = count - i;
+    let left = count % 4;
+    let at = 2 + 5 * fours;
     let size = total - at;
-    let word = gather(nodes, i, left);
+    let word = gather(nodes, count - left, left);
     put_bytes(out, at, word << (8 * size - 10 * left), size);
     total
 }

@@ -1,18 +1,16 @@
 -- What reading a text and writing a table as text answer, and what they leave in the caller's buffer, for all bytes and every buffer.
-use Rattle.std.specs.Prelude.{ℕ, List, [], ◌∷◌, length}
+use Rattle.std.specs.Prelude.{Result, ℕ, List, [], ◌∷◌, length}
 use Rattle.esterel.specs.Statement.{Statement}
-use Rattle.table.specs.Outcomes.{Outcome, refusal, values, fitted, buffer_after}
+use Rattle.table.specs.declared.Refusal.{Refusal}
+use Rattle.table.specs.Outcomes.{Outcome, refusal, outcome, fitted, buffer_after}
 use Rattle.table.specs.Reading.{Table, refused, holds, table_of}
 use Rattle.table.specs.Writing.{write}
-use Rattle.text.specs.declared.Answer.{Answer}
-use Rattle.text.specs.declared.Answer.TheVariants.{Refused, Written}
 use Rattle.text.specs.Writing.{write_text}
 use Rattle.text.specs.Reading.{table_in}
 
--- what is said of an answer, case by case: the refusal, or how many bytes were written
-unfoldable pub answer_outcome : Answer → Outcome
-answer_outcome (Refused w) = refusal w
-answer_outcome (Written n) = values (n ∷ [])
+-- what is said of an answer: the refusal, or how many bytes were written
+abbrev pub answer_outcome : Result ℕ Refusal → Outcome
+answer_outcome = outcome (λ n. n ∷ [])
 
 -- the refusals of a table, then 13; else the statement is written, in a form
 unfoldable pub answer_for : (Statement → List ℕ) → Table → ℕ → Outcome

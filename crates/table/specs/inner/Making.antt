@@ -7,7 +7,7 @@ use Rattle.table.specs.Reading.{length_of}
 use Rattle.table.specs.Writing.{node, node_bits}
 
 -- the operand, or the nearest in the range of a kind
-unfoldable pub in_range : Row → ℕ → ℕ
+abbrev pub in_range : Row → ℕ → ℕ
 in_range row o = cond (ltb o row.least) row.least (cond (ltb row.most o) row.most o)
 
 -- the node that is made of a kind and an operand

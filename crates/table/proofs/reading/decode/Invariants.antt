@@ -1,16 +1,10 @@
-use mathlib.Core.Path.{◌≡◌}
-use Prim.Native.Nat.{◌-◌, ◌%◌, ◌≤◌}
+-- The nodes before the place are cut, four at a time and then one by one.
+use Prim.Native.Nat.{◌*◌}
 use Rattle.table.specs.inner.Loading.{Cut}
 use Rattle.table.proofs.reading.decode.Given as goal
 
+abbrev pub invariant-loop-four : goal.invariant-loop-four
+invariant-loop-four l = Cut l.table 0 (4 * l.four) l.initial.nodes l.nodes
+
 abbrev pub invariant-loop-i : goal.invariant-loop-i
-invariant-loop-i l = (l.i ≤ l.n) × (l.i % 4 ≡ 0) × Cut l.table 0 l.i l.initial.nodes l.nodes
-
-abbrev pub decreases-loop-i : goal.decreases-loop-i
-decreases-loop-i l = l.n - l.i
-
-abbrev pub invariant-loop-i-2 : goal.invariant-loop-i-2
-invariant-loop-i-2 l = (l.i ≤ l.n) × Cut l.table l.initial.i l.i l.initial.nodes l.nodes
-
-abbrev pub decreases-loop-i-2 : goal.decreases-loop-i-2
-decreases-loop-i-2 l = l.n - l.i
+invariant-loop-i l = Cut l.table (4 * l.fours) l.i l.initial.nodes l.nodes

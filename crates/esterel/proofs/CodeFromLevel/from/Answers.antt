@@ -1,7 +1,7 @@
--- `esterel::code_of` meets its contract.
+-- `Code::from` meets its contract.
 use borrow.Author.Rules.{rules}
 use Rattle.esterel.specs.Codes.{code_of}
-use Rattle.esterel.proofs.code_of.Goals as goal
+use Rattle.esterel.proofs.CodeFromLevel.from.Goals as goal
 
 pub returns : goal.returns
 unfolding code_of
