@@ -1,12 +1,12 @@
 -- Blanks before a part: where something stands before them, the lexer finds the same without them.
-use Prim.Native.Nat.{ℕ, zero, suc, ◌+◌, ◌-◌, ◌≤◌, ◌<◌}
+use Prim.Native.Nat.{ℕ, ◌-◌, ◌≤◌}
 use mathlib.Core.Path.{◌≡◌, refl, sym, ap, ◌∙◌}
 use mathlib.Core.Logic.{◌⊎◌, inl, inr}
 use mathlib.Core.Bool.{true, false}
 use mathlib.Core.List.{List, [], ◌∷◌, ◌++◌}
 use native.Mathlib.Omega.{arith}
 use lib.Dec.{eqb}
-use lib.ListN.{length, get_or, take}
+use lib.ListN.{length, get_or, take, length-append}
 use borrow.Author.Tests.{eqb-true}
 use Rattle.sets.proofs.Booleans.{or_cases, clash}
 use Rattle.text.specs.Parts.{Part}
@@ -14,7 +14,7 @@ use Rattle.text.specs.Spelling.{last_of}
 use Rattle.text.specs.inner.Lexer.{Class, letter, blank, semi, bar, opens, closes, other, class_of, at, spaced, flushed, keep_letter, add_blank, take as takes, lex, finished, rest}
 use Rattle.text.proofs.Lexer.{class_blank, lex_append}
 use Rattle.reader.specs.inner.Ending.{blank_byte, Skipped}
-use Rattle.reader.proofs.Bytes.{take_last, take_next, last_snoc}
+use Rattle.reader.proofs.Bytes.{last_apart}
 
 -- ---- One blank
 
@@ -53,56 +53,32 @@ module _ (u : List ℕ) (c b : ℕ) (t : Part) (ts : List Part) (e : blank_byte 
   unfolding rest
   blank_left_out = ap finished blank_lexed
 
--- ---- The blanks before a place
+-- ---- The blanks at the end of a text
 
--- the bytes behind `at` up to `end` are blanks
-pub record Passing (bs : List ℕ) (end at : ℕ) : Type 0 where
-  pub within : at < end
-  pub goes_on : (t : Part) (ts : List Part) → rest (take end bs) (t ∷ ts) ≡ rest (take (at + 1) bs) (t ∷ ts)
+-- u is v and blanks before a part
+pub record Passing (u v : List ℕ) : Type 0 where
+  pub below : length v ≤ length u
+  pub begins : length v ≡ 0 → length u ≡ 0
+  pub first : blank_byte (get_or v 0 0) ≡ false
+  pub goes_on : (t : Part) (ts : List Part) → rest u (t ∷ ts) ≡ rest v (t ∷ ts)
 
-module _ (bs : List ℕ) (end : ℕ) where
-  pub passing_none : 1 ≤ end → Passing bs end (end - 1)
-  passing_none h =
-      let e : end ≡ end - 1 + 1 = omega arith in
-      record { within = omega arith; goes_on = λ t ts. ap (λ (n : ℕ). rest (take n bs) (t ∷ ts)) e }
+pub passing_none : (u : List ℕ) → blank_byte (get_or u 0 0) ≡ false → Passing u u
+passing_none u e = record { below = omega arith; begins = λ z. z; first = e; goes_on = λ t ts. refl }
 
-  module _ (at : ℕ) (h : end ≤ length bs) (p : Passing bs end at) where
-    pub not_first : blank_byte (get_or bs 0 0) ≡ false → blank_byte (get_or bs at 0) ≡ true → 1 ≤ at
-    not_first f e = go at e
-      where
-        go : (n : ℕ) → blank_byte (get_or bs n 0) ≡ true → 1 ≤ n
-        go zero e = clash e f
-        go (suc n) e = omega arith
+module _ (u v : List ℕ) (p : Passing u v) where
+  pub passing_more : (w : List ℕ) (b : ℕ) → v ≡ w ++ (b ∷ []) → blank_byte b ≡ true → Passing u w
+  passing_more [] b e h = clash h (sym (ap (λ (x : List ℕ). blank_byte (get_or x 0 0)) e) ∙ p.first)
+  passing_more (a ∷ w) b e h =
+      let apart = last_apart (a ∷ w) (omega arith) in
+      let c : ℕ = get_or (a ∷ w) (length (a ∷ w) - 1) 0 in
+      let front : List ℕ = take (length (a ∷ w) - 1) (a ∷ w) in
+      let split : v ≡ (front ++ (c ∷ [])) ++ (b ∷ []) = e ∙ ap (λ (x : List ℕ). x ++ (b ∷ [])) apart in
+      record {
+        below = omega (arith, p.below, ap length e, length-append (a ∷ w) (b ∷ []));
+        begins = λ z. absurd (omega arith);
+        first = sym (ap (λ (x : List ℕ). blank_byte (get_or x 0 0)) e) ∙ p.first;
+        goes_on = λ t ts. p.goes_on t ts ∙ ap (λ (x : List ℕ). rest x (t ∷ ts)) split ∙ blank_left_out front c b t ts h ∙ ap (λ (x : List ℕ). rest x (t ∷ ts)) (sym apart);
+      }
 
-    pub passing_more : blank_byte (get_or bs 0 0) ≡ false → blank_byte (get_or bs at 0) ≡ true → Passing bs end (at - 1)
-    passing_more f e =
-        let l = not_first f e in
-        let m : at ≡ at - 1 + 1 = omega arith in
-        let front : take at bs ≡ take (at - 1) bs ++ (get_or bs (at - 1) 0 ∷ []) = take_last bs at l (omega arith) in
-        record {
-          within = omega arith;
-          goes_on = λ t ts. p.goes_on t ts
-              ∙ ap (λ (u : List ℕ). rest u (t ∷ ts)) (take_next bs at (omega arith) ∙ ap (λ (u : List ℕ). u ++ (get_or bs at 0 ∷ [])) front)
-              ∙ blank_left_out (take (at - 1) bs) (get_or bs (at - 1) 0) (get_or bs at 0) t ts e
-              ∙ ap (λ (u : List ℕ). rest u (t ∷ ts)) (sym front)
-              ∙ ap (λ (i : ℕ). rest (take i bs) (t ∷ ts)) m;
-        }
-
-    pub skipped_to : blank_byte (get_or bs at 0) ≡ false → Skipped bs end (at + 1)
-    skipped_to e =
-        record {
-          below = omega arith;
-          begins = λ z. absurd (omega arith);
-          solid = ap (λ (u : List ℕ). blank_byte (last_of u)) (take_next bs at (omega arith)) ∙ ap blank_byte (last_snoc (take at bs) (get_or bs at 0)) ∙ e;
-          goes_on = p.goes_on;
-        }
-
-pub skipped_none : (bs : List ℕ) (end : ℕ) → end ≡ 0 → Skipped bs end 0
-unfolding blank_byte last_of
-skipped_none bs end e =
-    record {
-      below = omega arith;
-      begins = λ z. e;
-      solid = refl;
-      goes_on = λ t ts. ap (λ (i : ℕ). rest (take i bs) (t ∷ ts)) e;
-    }
+  pub skipped_to : blank_byte (last_of v) ≡ false → Skipped u v
+  skipped_to e = record { below = p.below; begins = p.begins; first = p.first; solid = e; goes_on = p.goes_on }

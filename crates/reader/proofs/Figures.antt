@@ -1,90 +1,74 @@
 -- A statement is due where the last byte is that of a number: a number or a signal is taken, or no part that suits ends there. And a pause, whose label stands before `:pause`.
-use Prim.Native.Nat.{ℕ, ◌-◌, ◌≤◌}
+use Prim.Native.Nat.{ℕ}
 use mathlib.Core.Path.{◌≡◌, sym, ap, ◌∙◌, subst}
-use mathlib.Core.Logic.{◌≢◌}
 use mathlib.Core.Bool.{Bool, true, false, ◌&&◌, and-true}
-use mathlib.Core.List.{List, []}
-use native.Mathlib.Omega.{arith}
-use lib.ListN.{length, take}
+use mathlib.Core.List.{List, [], ◌∷◌, ◌++◌}
+use denote.Ref.{Bor}
+use Rattle.std.specs.Prelude.{None}
+use Rattle.std.specs.Prelude as std
 use Rattle.sets.proofs.Booleans.{clash}
-use Rattle.table.specs.Bits.{Below}
-use Rattle.reader.specs.declared.lexing.Digits.{Digits}
-use Rattle.reader.specs.declared.lexing.Digits.TheVariants.{Broken, From}
-use Rattle.reader.specs.declared.moves.Taken.{Taken}
+use Rattle.reader.specs.declared.moves.Reader.{Reader}
+use Rattle.reader.specs.declared.moves.Room.{Room}
+use Rattle.table.specs.inner.Making.{node_of}
 use Rattle.text.specs.Parts.{number, signal_of, pause_at}
-use Rattle.text.specs.Spelling.{last_of}
+use Rattle.text.specs.Spelling.{digits, colon_pause, last_of}
 use Rattle.text.specs.Reading.{label_ranged, signal_ranged}
 use Rattle.text.specs.inner.Lexer.{is_digit, is_letter}
-use Rattle.reader.specs.inner.Ending.{closes_in, Numbers, Skipped}
+use Rattle.reader.specs.inner.Ending.{Ending, Words, Number, Numbers, Signal, Skipped}
 use Rattle.reader.specs.inner.Nodes.{part_ranged, all_ranged, Kept, Frames, due, numbered, named, single, put_on, work_due, work, work_all}
 use Rattle.reader.specs.inner.Held.{Doomed, Moved, Took}
-use Rattle.table.specs.inner.Making.{node_of}
 use Rattle.reader.proofs.Endings.{ending_rest}
-use Rattle.reader.proofs.Words.{colon_ending, ending_colon}
-use Rattle.reader.proofs.Numerals.{number_here, number_ending, ending_number, signal_ending, ending_signal, pause_ending, pause_colon, ending_pause}
-use Rattle.reader.proofs.Taking.{took, took_behind}
-use Rattle.reader.proofs.Places.{last_place}
+use Rattle.reader.proofs.Numerals.{number_ending, ending_none, ending_number, no_signal, ending_mark, pause_ending, ending_pause}
+use Rattle.reader.proofs.Places.{front_ending, front_number, front_skipped, same_front}
+use Rattle.reader.proofs.Taking.{Goes, took, took_behind}
 use Rattle.reader.proofs.Dues.{no_digits, no_pause}
 use Rattle.reader.proofs.Ranges.{signal_ranged_lem, number_ranged, pause_ranged}
 
-module _ (bs : List ℕ) (end : ℕ) (fits : end ≤ length bs) (n : ℕ) (a b : Bool) (K : Frames) (B : Kept) where
-  module _ {r : Digits} (N : Numbers bs end r) (d : is_digit (last_of (take end bs)) ≡ true) where
-    pub unnumbered : r ≡ Broken → Doomed bs end (due n a b K B)
-    unnumbered e = let M = subst (Numbers bs end) e N in no_digits bs end fits n a b K B d (λ v m E. ending_number bs end v m Broken E M) (λ v m E. ending_signal bs end v m Broken fits E M)
+module _ (u : List ℕ) (n : ℕ) (a b : Bool) (K : Frames) (B : Kept) where
+  module _ (d : is_digit (last_of u) ≡ true) where
+    pub unnumbered : Numbers u None → Doomed u (due n a b K B)
+    unnumbered N = no_digits u n a b K B d (λ v m E. ending_none u v m E N) (λ v m E. no_signal u N v m E)
 
-    module _ {value start : ℕ} (e : r ≡ From value start) where
-      -- a letter before it, or before its S
-      pub number_touched : last_of (take start bs) ≢ 83 → is_letter (last_of (take start bs)) ≡ true → Doomed bs end (due n a b K B)
-      number_touched s l =
-          let M = number_here bs end e N in
-          no_digits bs end fits n a b K B d (λ v m E. clash l (ending_number bs end v m (From value start) E M).clear) (λ v m E. s (ending_signal bs end v m (From value start) fits E M).behind)
+    -- a letter before it, or before its S
+    pub number_touched : (v : List ℕ) {value : ℕ} → Number u v value → Words v (83 ∷ []) None → is_letter (last_of v) ≡ true → Doomed u (due n a b K B)
+    number_touched v N W l =
+        no_digits u n a b K B d (λ w m E. clash l (ending_number u v w m E N).2) (λ w m E. W w (ending_mark u v N w m E).0)
 
-      pub signal_touched : last_of (take start bs) ≡ 83 → is_letter (last_of (take (start - 1) bs)) ≡ true → Doomed bs end (due n a b K B)
-      unfolding is_letter
-      signal_touched s l =
-          let M = number_here bs end e N in
-          no_digits bs end fits n a b K B d (λ v m E. clash (ap is_letter s) (ending_number bs end v m (From value start) E M).clear) (λ v m E. clash l (ending_signal bs end v m (From value start) fits E M).clear)
-
-  module _ {r : Digits} (N : Numbers bs end r) {value start : ℕ} (e : r ≡ From value start) {place : ℕ} (ranged ranged' : Bool) (t : Taken) (fs xs : List ℕ) where
-    pub number_taken : is_letter (last_of (take start bs)) ≡ false → Skipped bs start place → {z : Bool} → z ≡ label_ranged value → ranged' ≡ (ranged && z) → Took bs place (numbered n value a b K B) true t true fs xs
-        → Took bs end (due n a b K B) ranged t ranged' fs xs
+  module _ (o : std.Option (Bor (List ℕ) × Reader)) (m : Room) where
+    pub number_taken : (v w : List ℕ) (ranged mid : Bool) {value : ℕ} {z : Bool} → Number u v value → is_letter (last_of v) ≡ false → Skipped v w → z ≡ label_ranged value → mid ≡ (ranged && z) → Took w (numbered n value a b K B) mid o m
+        → Took u (due n a b K B) ranged o m
     unfolding work work_due part_ranged
-    number_taken clear S value-ranged within T =
-        let M = number_here bs end e N in
-        let m = M.number in
-        took_behind bs end place (number m) (due n a b K B) ranged ranged' t fs xs (λ ts. ending_rest _ _ (number m) ts (number_ending M clear) ∙ S.goes_on (number m) ts) (omega (arith, M.shorter, S.below)) S.solid
-        (within ∙ number_ranged ranged m M.held value-ranged) (subst (λ (k : ℕ). Took bs place (numbered n k a b K B) true t true fs xs) (sym M.held) T)
+    number_taken v w ranged mid N clear S value-ranged within T =
+        took_behind u w (number N.number) (due n a b K B) ranged mid (λ ts. ending_rest _ _ (number N.number) ts (number_ending N clear) ∙ S.goes_on (number N.number) ts) (front_skipped (front_number u v N) S)
+        (within ∙ number_ranged ranged N.number N.held value-ranged) S.solid o m (subst (λ (k : ℕ). Took w (numbered n k a b K B) mid o m) (sym N.held) T)
 
-    pub signal_taken : last_of (take start bs) ≡ 83 → is_letter (last_of (take (start - 1) bs)) ≡ false → Skipped bs (start - 1) place → {z : Bool} → z ≡ signal_ranged value → ranged' ≡ (ranged && z)
-        → Took bs place (named n value a b K B) true t true fs xs → Took bs end (due n a b K B) ranged t ranged' fs xs
+    pub signal_taken : (v w : List ℕ) (ranged mid : Bool) {value : ℕ} {z : Bool} → Signal u v value → Skipped v w → z ≡ signal_ranged value → mid ≡ (ranged && z) → Took w (named n value a b K B) mid o m → Took u (due n a b K B) ranged o m
     unfolding work work_due part_ranged
-    signal_taken s clear S value-ranged within T =
-        let M = number_here bs end e N in
-        let m = M.number in
-        let shorter = M.shorter in
-        took_behind bs end place (signal_of m) (due n a b K B) ranged ranged' t fs xs
-        (λ ts. ending_rest _ _ (signal_of m) ts (signal_ending M (last_place bs start s (omega arith)) s clear (omega arith)) ∙ S.goes_on (signal_of m) ts) (omega (arith, S.below)) S.solid
-        (within ∙ signal_ranged_lem ranged m M.held value-ranged) (subst (λ (k : ℕ). Took bs place (named n k a b K B) true t true fs xs) (sym M.held) T)
+    signal_taken v w ranged mid N S value-ranged within T =
+        took_behind u w (signal_of N.number) (due n a b K B) ranged mid (λ ts. ending_rest _ _ (signal_of N.number) ts N.there ∙ S.goes_on (signal_of N.number) ts) (front_skipped (front_ending u v (signal_of N.number) N.there) S)
+        (within ∙ signal_ranged_lem ranged N.number N.held value-ranged) S.solid o m (subst (λ (k : ℕ). Took w (named n k a b K B) mid o m) (sym N.held) T)
 
   -- ---- A pause
-  module _ (last : last_of (take end bs) ≡ 101) where
-    pub no_colon : closes_in (take (end - 1) bs) 495890559034 5 ≡ false → Doomed bs end (due n a b K B)
-    no_colon f = no_pause bs end fits n a b K B last (λ v m E. clash (ending_colon bs end (take (end - 6) bs) fits (pause_colon bs end v m fits E)).1 f)
+  module _ (last : last_of u ≡ 101) where
+    pub no_colon : ((v : List ℕ) → u ≡ v ++ colon_pause → ⊥) → Doomed u (due n a b K B)
+    no_colon f = no_pause u n a b K B last (λ w m E. f (w ++ digits m) (ending_pause u w m E).0)
 
-    module _ {r : Digits} (N : Numbers bs (end - 6) r) where
-      pub no_label : r ≡ Broken → Doomed bs end (due n a b K B)
-      no_label e = no_pause bs end fits n a b K B last (λ v m E. ending_pause bs end v m fits E Broken (subst (Numbers bs (end - 6)) e N))
+    module _ (v : List ℕ) (colon : u ≡ v ++ colon_pause) where
+      label_of : (w : List ℕ) (m : ℕ) → Ending u w (pause_at m) → Ending v w (number m)
+      label_of w m E = let P = ending_pause u w m E in subst (λ (x : List ℕ). Ending x w (number m)) (same_front (w ++ digits m) v colon_pause (sym P.0 ∙ colon)) P.1
 
-      module _ {value start : ℕ} (e : r ≡ From value start) where
-        pub label_touched : is_letter (last_of (take start bs)) ≡ true → Doomed bs end (due n a b K B)
-        label_touched l = no_pause bs end fits n a b K B last (λ v m E. clash l (ending_pause bs end v m fits E (From value start) (number_here bs (end - 6) e N)).clear)
+      pub no_label : Numbers v None → Doomed u (due n a b K B)
+      no_label N = no_pause u n a b K B last (λ w m E. ending_none v w m (label_of w m E) N)
 
-        pub pause_taken : Below 256 bs → closes_in (take (end - 1) bs) 495890559034 5 ≡ true → is_letter (last_of (take start bs)) ≡ false → (ranged ranged' : Bool) (t : Taken) (fs xs : List ℕ)
-            → {z : Bool} → z ≡ label_ranged value → ranged' ≡ (ranged && z) → Moved t start fs xs (single n a b K (put_on (node_of 1 value) B)) → Took bs end (due n a b K B) ranged t ranged' fs xs
+      module _ (w : List ℕ) {value : ℕ} (N : Number v w value) where
+        pub label_touched : is_letter (last_of w) ≡ true → Doomed u (due n a b K B)
+        label_touched l = no_pause u n a b K B last (λ x m E. clash l (ending_number v w x m (label_of x m E) N).2)
+
+        pub pause_taken : is_letter (last_of w) ≡ false → {ranged z : Bool} → z ≡ label_ranged value → {r s : Reader} {m : Room} → r.ranged ≡ (ranged && z) → Moved r s m (single n a b K (put_on (node_of 1 value) B))
+            → Goes u w (due n a b K B) ranged s m
         unfolding work_all work work_due all_ranged part_ranged
-        pause_taken below colon clear ranged ranged' t fs xs value-ranged within moved =
-            let M = number_here bs (end - 6) e N in
-            let m = M.number in
-            took bs end (due n a b K B) (pause_at m) [] ranged ranged' t fs xs (λ ts. ending_rest _ _ (pause_at m) ts (pause_ending bs end (colon_ending bs end fits below last colon) M clear))
-            (within ∙ pause_ranged ranged m M.held value-ranged ∙ ap (λ (z : Bool). z && ranged) (sym (and-true (label_ranged m))))
-            (omega (arith, M.shorter)) (subst (λ (k : ℕ). Moved t start fs xs (single n a b K (put_on (node_of 1 k) B))) (sym M.held) moved)
+        pause_taken clear {ranged} value-ranged {r} {s} {m} within moved =
+            let E = pause_ending colon N clear in
+            took u w (due n a b K B) (pause_at N.number) [] (λ ts. ending_rest _ _ (pause_at N.number) ts E)
+            (within ∙ pause_ranged ranged N.number N.held value-ranged ∙ ap (λ (z : Bool). z && ranged) (sym (and-true (label_ranged N.number))))
+            (front_ending u w (pause_at N.number) E) (subst (λ (k : ℕ). Moved r s m (single n a b K (put_on (node_of 1 k) B))) (sym N.held) moved)

@@ -1,97 +1,48 @@
 -- The signal behind `signal` or `present`, and `in` or `then` behind it: where they are found the text ends in them, and else no text that ends so is one of a statement.
-use Prim.Native.Nat.{ℕ, ◌-◌, ◌≤◌}
+use Prim.Native.Nat.{ℕ, ◌≤◌}
 use mathlib.Core.Path.{◌≡◌, refl, sym, ap, ◌∙◌, subst}
-use mathlib.Core.Logic.{◌≢◌}
-use mathlib.Core.Bool.{Bool, true, false, ◌&&◌}
+use mathlib.Core.Bool.{Bool, ◌&&◌}
 use mathlib.Core.List.{List, [], ◌∷◌}
-use native.Mathlib.Omega.{arith}
-use lib.ListN.{length, take}
-use Rattle.sets.proofs.Booleans.{clash}
-use Rattle.table.specs.Bits.{Below}
+use Rattle.std.specs.Prelude.{None}
 use Rattle.table.specs.inner.Making.{node_of}
-use Rattle.reader.specs.declared.lexing.Digits.{Digits}
-use Rattle.reader.specs.declared.lexing.Digits.TheVariants.{Broken, From}
-use Rattle.reader.specs.declared.moves.Taken.{Taken}
+use Rattle.reader.specs.declared.moves.Reader.{Reader}
+use Rattle.reader.specs.declared.moves.Room.{Room}
 use Rattle.text.specs.Parts.{Word, In, Then, Part, word, signal_of}
 use Rattle.text.specs.Parts as parts
-use Rattle.text.specs.Spelling.{letters_of, spelling, last_of}
+use Rattle.text.specs.Spelling.{letters_of}
 use Rattle.text.specs.Reading.{signal_ranged}
-use Rattle.text.specs.inner.Lexer.{is_letter, rest}
-use Rattle.reader.specs.inner.Ending.{Ending, value_of, initial, ends_in, Number, Numbers, Signal, Signals, Skipped}
+use Rattle.text.specs.inner.Lexer.{rest}
+use Rattle.reader.specs.inner.Ending.{Ending, Worded, Words, Signal, Signals, Skipped}
 use Rattle.reader.specs.inner.Nodes.{clip, clip_part, Kept, put_on, Frames, bottom, bracket, ending, otherwise, of_signal, of_present, Work, failed, met, aside, end_frame, in_frame, then_frame, signal_frame, work_met, work_heading, work_headed, work, work_all, made}
-use Rattle.reader.specs.inner.Held.{Doomed, Awaits, Heading, Headings, Moved, Took}
-use Rattle.reader.proofs.Endings.{ending_rest, ending_last}
-use Rattle.reader.proofs.Words.{word_number, word_count, word_ending, ending_word, word_fits, initial_length}
-use Rattle.reader.proofs.Numerals.{signal_ending, ending_signal}
+use Rattle.reader.specs.inner.Held.{Doomed, Awaits, Heading, Headings, Moved}
+use Rattle.reader.proofs.Endings.{ending_rest}
 use Rattle.reader.proofs.Working.{clip_work}
-use Rattle.reader.proofs.Taking.{doomed, doomed_behind, took}
+use Rattle.reader.proofs.Places.{front_ending, front_skipped, front_front}
+use Rattle.reader.proofs.Taking.{doomed, doomed_behind, doomed_parts, Goes, took}
 use Rattle.reader.proofs.Suiting.{heading_failed, declared_failed, tested_failed}
-use Rattle.reader.proofs.Places.{last_place}
-use Rattle.reader.proofs.Parting.{word_goes_on}
+use Rattle.reader.proofs.Parting.{word_ending, no_word}
 use Rattle.reader.proofs.Ranges.{held_most, heading_ranged}
 
--- ---- The signal that ends at a place
+-- ---- The signal, and the word before it
 
-module _ (bs : List ℕ) (end : ℕ) (fits : end ≤ length bs) where
-  pub no_signal : {r : Digits} → r ≡ Broken → Numbers bs end r → Signals bs end Broken
-  no_signal {r} e N = λ v m E. ending_signal bs end v m Broken fits E (subst (Numbers bs end) e N)
+pub no_heading : (u : List ℕ) (w : Word) → Signals u None → Headings u w None
+no_heading u w S = λ x A. doomed u x (λ f. A.unmade) (λ v t E. A.signals t (λ m f. S v m (subst (λ (p : Part). Ending u v p) f E)))
 
-  module _ {start value : ℕ} (N : Number bs end start value) where
-    pub no_mark : last_of (take start bs) ≢ 83 → Signals bs end Broken
-    no_mark f = λ v m E. f (ending_signal bs end v m (From value start) fits E N).behind
+module _ (u v q : List ℕ) (w : Word) {value : ℕ} (S : Signal u v value) (K : Skipped v q) where
+  signal_goes_on : (ts : List Part) → rest u ts ≡ rest q (signal_of S.number ∷ ts)
+  signal_goes_on ts = ending_rest _ _ _ ts S.there ∙ K.goes_on (signal_of S.number) ts
 
-    pub mark_touched : is_letter (last_of (take (start - 1) bs)) ≡ true → Signals bs end Broken
-    mark_touched h = λ v m E. clash h (ending_signal bs end v m (From value start) fits E N).clear
+  pub other_word : Words q (letters_of w) None → Headings u w None
+  other_word none = λ x A. doomed_behind u q (signal_of S.number) x signal_goes_on K.solid (doomed q _ (λ f. A.named S.number) (λ v t E. A.words S.number t (no_word w E none)))
 
-    pub signal_there : last_of (take start bs) ≡ 83 → is_letter (last_of (take (start - 1) bs)) ≡ false → Signal bs end (start - 1) value
-    signal_there l f =
-        let below = N.shorter in
-        record { number = N.number; there = signal_ending N (last_place bs start l (omega arith)) l f (omega arith); held = N.held; shorter = omega arith }
+  pub heading_there : (p : List ℕ) → Worded q (letters_of w) p → Heading u p w value
+  heading_there p W =
+      let E = word_ending w W in
+      let F = front_front (front_skipped (front_ending u v (signal_of S.number) S.there) K) (front_ending q p (word w) E) in
+      record { number = S.number; held = S.held; goes_on = λ ts. signal_goes_on ts ∙ ending_rest _ _ _ _ E; shorter = F.shorter; first = F.first }
 
--- ---- The word before it
-
-pub signal_here : (bs : List ℕ) (end : ℕ) {r : Digits} {value start : ℕ} → r ≡ From value start → Signals bs end r → Signal bs end start value
-signal_here bs end e S = subst (Signals bs end) e S
-
-pub behind_within : {bs : List ℕ} {end start behind value : ℕ} → Signal bs end start value → Skipped bs start behind → end ≤ length bs → behind ≤ length bs
-behind_within S K fits = let shorter = S.shorter in let below = K.below in omega arith
-
-module _ (bs : List ℕ) (end : ℕ) (w : Word) where
-  pub no_heading : {r : Digits} → r ≡ Broken → Signals bs end r → Headings bs end w Broken
-  no_heading {r} e S = λ x A. doomed bs end x (λ f. A.unmade) (λ v t E. A.signals t (λ m f. subst (Signals bs end) e S v m (subst (λ (p : Part). Ending (take end bs) v p) f E)))
-
-  module _ {start behind value : ℕ} (S : Signal bs end start value) (K : Skipped bs start behind) where
-    signal_goes_on : (ts : List Part) → rest (take end bs) ts ≡ rest (take behind bs) (signal_of S.number ∷ ts)
-    signal_goes_on ts = ending_rest _ _ _ ts S.there ∙ K.goes_on (signal_of S.number) ts
-
-    word_fails : ((v : List ℕ) → Ending (take behind bs) v (word w) → ⊥) → Headings bs end w Broken
-    word_fails none = λ x A.
-        doomed_behind bs end behind (signal_of S.number) x signal_goes_on K.solid
-        (doomed bs behind _ (λ f. A.named S.number) (λ v t E. A.words S.number t (λ f. none v (subst (λ (p : Part). Ending (take behind bs) v p) f E))))
-
-    pub other_letter : last_of (take behind bs) ≢ last_of (letters_of w) → Headings bs end w Broken
-    unfolding spelling
-    other_letter f = word_fails (λ v E. f (ending_last _ v (word w) E))
-
-    module _ (within : end ≤ length bs) {n k : ℕ} (number : n ≡ value_of (initial w)) (count : k ≡ length (initial w)) where
-      fits : behind ≤ length bs
-      fits = behind_within S K within
-
-      tested : ends_in (take (behind - 1) bs) n k ≡ ends_in (take (behind - 1) bs) (value_of (initial w)) (length (initial w))
-      tested = ap (λ (i : ℕ). ends_in (take (behind - 1) bs) i k) number ∙ ap (ends_in (take (behind - 1) bs) (value_of (initial w))) count
-
-      pub other_word : ends_in (take (behind - 1) bs) n k ≡ false → Headings bs end w Broken
-      other_word f = word_fails (λ v E. clash (ending_word w bs behind v fits E) (sym tested ∙ f))
-
-      pub heading_there : Below 256 bs → last_of (take behind bs) ≡ last_of (letters_of w) → ends_in (take (behind - 1) bs) n k ≡ true → Heading bs end w (behind - 1 - k) value
-      heading_there below l p =
-          let E : Ending (take behind bs) (take (behind - length (letters_of w)) bs) (word w) = word_ending w bs behind fits below l (sym tested ∙ p) in
-          let size = initial_length w in
-          let room = word_fits w bs behind _ fits E in
-          let place : behind - length (letters_of w) ≡ behind - 1 - k = omega arith in
-          let before = K.below in
-          let shorter = S.shorter in
-          subst (λ (i : ℕ). Heading bs end w i value) place (record { number = S.number; held = S.held; goes_on = λ ts. signal_goes_on ts ∙ ending_rest _ _ _ _ E; shorter = omega arith })
+pub value_most : {u v : List ℕ} (w : Word) {value : ℕ} → Heading u v w value → value ≤ 100
+value_most w H = subst (λ (v : ℕ). v ≤ 100) H.held (held_most H.number)
 
 -- ---- What `in` and `then` wait for
 
@@ -130,51 +81,54 @@ then_heading n m b K B = ap (work (word parts.Present)) (sym (clip_work (signal_
 
 -- ---- `in` or `then` before a whole chain
 
-module _ (bs : List ℕ) (end : ℕ) {behind at : ℕ} (w' : Word) (goes : (ts : List Part) → rest (take end bs) ts ≡ rest (take behind bs) (word w' ∷ ts)) (K : Skipped bs behind at) (x : Work) where
-  heading_doomed : (w : Word) {r : Digits} → r ≡ Broken → Headings bs at w r → Awaits w (work (word w') x) → Doomed bs end x
-  heading_doomed w e H A = doomed_behind bs end at (word w') x (λ ts. goes ts ∙ K.goes_on (word w') ts) K.solid (subst (Headings bs at w) e H _ A)
+module _ (w' w : Word) {u v q : List ℕ} (W : Worded u (letters_of w') v) (K : Skipped v q) (x : Work) where
+  goes : (ts : List Part) → rest u ts ≡ rest q (word w' ∷ ts)
+  goes ts = ending_rest _ _ _ ts (word_ending w' W) ∙ K.goes_on (word w') ts
 
-  took_heading : behind ≤ end → (w : Word) {start value : ℕ} (H : Heading bs at w start value) (ranged : Bool) {z : Bool} → z ≡ signal_ranged value → (r : Taken) (fs xs : List ℕ)
-      → Moved r start fs xs (work_all (word w ∷ signal_of H.number ∷ word w' ∷ []) x) → Took bs end x ranged r (ranged && z) fs xs
-  took_heading fits w H ranged e r fs xs m =
-      let below = K.below in
-      let shorter = H.shorter in
-      took bs end x (word w) (signal_of H.number ∷ word w' ∷ []) ranged _ r fs xs (λ ts. goes ts ∙ K.goes_on (word w') ts ∙ H.goes_on (word w' ∷ ts)) (heading_ranged ranged H.number H.held w w' e) (omega arith) m
+  heading_doomed : Headings q w None → Awaits w (work (word w') x) → Doomed u x
+  heading_doomed H A = doomed_behind u q (word w') x goes K.solid (H _ A)
 
-pub value_most : (bs : List ℕ) (end : ℕ) (w : Word) {d : Digits} {value start : ℕ} → d ≡ From value start → Headings bs end w d → value ≤ 100
-value_most bs end w {value = value} {start = start} e H = let G : Heading bs end w start value = subst (Headings bs end w) e H in subst (λ (v : ℕ). v ≤ 100) G.held (held_most G.number)
+  module _ {p : List ℕ} {value : ℕ} (H : Heading q p w value) where
+    heading_goes : (ts : List Part) → rest u ts ≡ rest p (word w ∷ signal_of H.number ∷ word w' ∷ ts)
+    heading_goes ts = goes ts ∙ H.goes_on (word w' ∷ ts)
 
-module _ (bs : List ℕ) (end : ℕ) (fits : end ≤ length bs) (below : Below 256 bs) (l : last_of (take end bs) ≡ 110) (n : ℕ) (b : Bool) (K : Frames) (B : Kept) where
-  module _ (p : ends_in (take (end - 1) bs) (word_number Then) (word_count Then) ≡ true) {at : ℕ} (S : Skipped bs (end - 4) at) where
-    then_goes_on : (ts : List Part) → rest (take end bs) ts ≡ rest (take (end - 4) bs) (word Then ∷ ts)
-    unfolding letters_of last_of
-    then_goes_on = word_goes_on bs end fits below Then l p
+    heading_failed_at : work_all (word w ∷ signal_of H.number ∷ word w' ∷ []) x ≡ failed → Doomed u x
+    heading_failed_at f = doomed_parts u p x (word w) (signal_of H.number ∷ word w' ∷ []) heading_goes f
 
-    pub then_doomed : {d : Digits} → d ≡ Broken → Headings bs at parts.Present d → Doomed bs end (met n b K B)
+    took_heading : {ranged z : Bool} → z ≡ signal_ranged value → {r s : Reader} {m : Room} → r.ranged ≡ (ranged && z) → Moved r s m (work_all (word w ∷ signal_of H.number ∷ word w' ∷ []) x) → Goes u p x ranged s m
+    took_heading {ranged} e within M =
+        took u p x (word w) (signal_of H.number ∷ word w' ∷ []) heading_goes (within ∙ heading_ranged ranged H.number H.held w w' e)
+        (front_front (front_skipped (front_ending u v (word w') (word_ending w' W)) K) (record { shorter = H.shorter; first = H.first })) M
+
+module _ {u v q : List ℕ} (n : ℕ) (b : Bool) (K : Frames) (B : Kept) where
+  module _ (W : Worded u (letters_of Then) v) (S : Skipped v q) where
+    pub then_doomed : Headings q parts.Present None → Doomed u (met n b K B)
     unfolding work work_met
-    then_doomed e H = heading_doomed bs end Then then_goes_on S (met n b K B) parts.Present e H (then_awaits n (aside b B) K)
+    then_doomed H = heading_doomed Then parts.Present W S (met n b K B) H (then_awaits n (aside b B) K)
 
-    pub took_then : {d : Digits} {value start : ℕ} → d ≡ From value start → Headings bs at parts.Present d → {C : Kept} → aside b B ≡ C → (ranged : Bool) {z : Bool} → z ≡ signal_ranged value → (r : Taken) (fs xs : List ℕ)
-        → Moved r start fs xs (work_all (word parts.Present ∷ signal_of value ∷ []) (then_frame n C K)) → Took bs end (met n b K B) ranged r (ranged && z) fs xs
-    took_then {value = value} {start = start} f H {C = C} e ranged g r fs xs m =
-        let G : Heading bs at parts.Present start value = subst (Headings bs at parts.Present) f H in
-        let same : work_all (word parts.Present ∷ signal_of G.number ∷ word Then ∷ []) (met n b K B) ≡ work_all (word parts.Present ∷ signal_of value ∷ []) (then_frame n C K) =
-        then_heading n G.number b K B ∙ ap (λ (v : ℕ). work_all (word parts.Present ∷ signal_of v ∷ []) (then_frame n (aside b B) K)) G.held ∙ ap (λ (A : Kept). work_all (word parts.Present ∷ signal_of value ∷ []) (then_frame n A K)) e in
-        took_heading bs end Then then_goes_on S (met n b K B) (omega arith) parts.Present G ranged g r fs xs (subst (Moved r start fs xs) (sym same) m)
+    module _ {p : List ℕ} {value : ℕ} (H : Heading q p parts.Present value) {C : Kept} (e : aside b B ≡ C) where
+      then_same : work_all (word parts.Present ∷ signal_of H.number ∷ word Then ∷ []) (met n b K B) ≡ work_all (word parts.Present ∷ signal_of value ∷ []) (then_frame n C K)
+      then_same =
+          then_heading n H.number b K B ∙ ap (λ (v : ℕ). work_all (word parts.Present ∷ signal_of v ∷ []) (then_frame n (aside b B) K)) H.held ∙ ap (λ (A : Kept). work_all (word parts.Present ∷ signal_of value ∷ []) (then_frame n A K)) e
 
-  module _ (p : ends_in (take (end - 1) bs) (word_number In) (word_count In) ≡ true) {at : ℕ} (S : Skipped bs (end - 2) at) where
-    in_goes_on : (ts : List Part) → rest (take end bs) ts ≡ rest (take (end - 2) bs) (word In ∷ ts)
-    unfolding letters_of last_of
-    in_goes_on = word_goes_on bs end fits below In l p
+      pub then_failed : work_all (word parts.Present ∷ signal_of value ∷ []) (then_frame n C K) ≡ failed → Doomed u (met n b K B)
+      then_failed f = heading_failed_at Then parts.Present W S (met n b K B) H (then_same ∙ f)
 
-    pub in_doomed : {d : Digits} → d ≡ Broken → Headings bs at parts.Signal d → Doomed bs end (met n b K B)
+      pub took_then : {ranged z : Bool} → z ≡ signal_ranged value → {r s : Reader} {m : Room} → r.ranged ≡ (ranged && z) → Moved r s m (work_all (word parts.Present ∷ signal_of value ∷ []) (then_frame n C K)) → Goes u p (met n b K B) ranged s m
+      took_then g {r} {s} {m} within M = took_heading Then parts.Present W S (met n b K B) H g within (subst (Moved r s m) (sym then_same) M)
+
+  module _ (W : Worded u (letters_of In) v) (S : Skipped v q) where
+    pub in_doomed : Headings q parts.Signal None → Doomed u (met n b K B)
     unfolding work work_met
-    in_doomed e H = heading_doomed bs end In in_goes_on S (met n b K B) parts.Signal e H (in_awaits n (aside b B) K)
+    in_doomed H = heading_doomed In parts.Signal W S (met n b K B) H (in_awaits n (aside b B) K)
 
-    pub took_in : {d : Digits} {value start : ℕ} → d ≡ From value start → Headings bs at parts.Signal d → {C : Kept} → aside b B ≡ C → (ranged : Bool) {z : Bool} → z ≡ signal_ranged value → (r : Taken) (fs xs : List ℕ)
-        → Moved r start fs xs (end_frame n (put_on (node_of 5 value) C) K) → Took bs end (met n b K B) ranged r (ranged && z) fs xs
-    took_in {value = value} {start = start} f H {C = C} e ranged g r fs xs m =
-        let G : Heading bs at parts.Signal start value = subst (Headings bs at parts.Signal) f H in
-        let same : work_all (word parts.Signal ∷ signal_of G.number ∷ word In ∷ []) (met n b K B) ≡ end_frame n (put_on (node_of 5 value) C) K =
-        in_heading n G.number b K B ∙ ap (λ (v : ℕ). end_frame n (put_on (node_of 5 v) (aside b B)) K) G.held ∙ ap (λ (A : Kept). end_frame n (put_on (node_of 5 value) A) K) e in
-        took_heading bs end In in_goes_on S (met n b K B) (omega arith) parts.Signal G ranged g r fs xs (subst (Moved r start fs xs) (sym same) m)
+    module _ {p : List ℕ} {value : ℕ} (H : Heading q p parts.Signal value) {C : Kept} (e : aside b B ≡ C) where
+      in_same : work_all (word parts.Signal ∷ signal_of H.number ∷ word In ∷ []) (met n b K B) ≡ end_frame n (put_on (node_of 5 value) C) K
+      in_same =
+          in_heading n H.number b K B ∙ ap (λ (v : ℕ). end_frame n (put_on (node_of 5 v) (aside b B)) K) H.held ∙ ap (λ (A : Kept). end_frame n (put_on (node_of 5 value) A) K) e
+
+      pub in_failed : end_frame n (put_on (node_of 5 value) C) K ≡ failed → Doomed u (met n b K B)
+      in_failed f = heading_failed_at In parts.Signal W S (met n b K B) H (in_same ∙ f)
+
+      pub took_in : {ranged z : Bool} → z ≡ signal_ranged value → {r s : Reader} {m : Room} → r.ranged ≡ (ranged && z) → Moved r s m (end_frame n (put_on (node_of 5 value) C) K) → Goes u p (met n b K B) ranged s m
+      took_in g {r} {s} {m} within M = took_heading In parts.Signal W S (met n b K B) H g within (subst (Moved r s m) (sym in_same) M)

@@ -1,139 +1,77 @@
--- What the arrays of the reader hold after a store: the stack and the nodes.
+-- What the room of the reader holds after a store: the stack and the nodes.
+use Prim.Native.Nat.{ℕ, zero, suc, ◌+◌, ◌-◌, ◌≤◌, ◌<◌, min}
 use mathlib.Core.Path.{◌≡◌, refl, sym, ap, ◌∙◌}
 use mathlib.Core.Bool.{Bool, true, false, cond}
 use mathlib.Core.List.{List, [], ◌∷◌, ◌++◌, append_assoc}
-use Prim.Native.Nat.{ℕ, zero, suc, ◌+◌, ◌-◌, ◌*◌, ◌/◌, ◌%◌, ◌≤◌, ◌<◌, min}
 use native.Mathlib.Omega.{arith}
 use borrow.Author.Tests.{le-leb, lt-leb}
-use mathlib.Core.Logic.{⊎_elim}
-use native.Mathlib.Nat.{add-zero, eq-or-lt_of_le}
-use lib.Dec.{eqb}
-use lib.ListN.{length, take, drop, get_or, set, length-append, length-take, length-drop, length-set}
-use lib.Seq.{length-take-le, take-suc, drop-cons, drop-set-lt, drop-set-add, get_or-set_same, get_or-drop, get_or-append-add, set_at}
-use mir.Val.{bool_byte}
-use Rattle.reader.specs.declared.frames.Opened.{Opened}
-use Rattle.reader.specs.declared.frames.Opened.TheVariants.{Bracket, Ending, Otherwise}
+use lib.ListN.{length, take, drop, get_or, set, length-append, length-take, length-drop, length-set, take-append-drop}
+use lib.Seq.{length-take-le, drop-cons, drop_at, drop-drop, drop-set-lt, drop-set-add, get_or-set_same, set_at}
+use Rattle.std.specs.Prelude.{Option, Some, None}
+use Rattle.std.specs.List.{copy_within}
+use Rattle.std.proofs.Math.Seq.{paste}
+use Rattle.std.proofs.lemmas.List.Edits.{drop-paste, take-paste}
 use Rattle.reader.specs.declared.frames.Frame.{Frame}
 use Rattle.table.specs.inner.Making.{node_of}
 use Rattle.reader.specs.inner.Nodes.{Kept, few, many, kept, put_on, insert_behind, insert_on}
 use Rattle.reader.proofs.Working.{kept_few, kept_many}
-use Rattle.reader.specs.inner.Held.{kept_in, Stored, opened_number, opened_of, flags_number, frame_in, framed_as, framed, frames_of, stack_at}
+use Rattle.reader.specs.inner.Kept.{kept_in, Counted, Stored}
+use Rattle.reader.specs.inner.Held.{framed, frames_of, stack_at}
 
 -- ---- The stack
 
-pub byte_bound : (b : Bool) → bool_byte b ≤ 1
-byte_bound true = omega arith
-byte_bound false = omega arith
-
-byte_flag : (b : Bool) → eqb (bool_byte b) 1 ≡ b
-byte_flag true = refl
-byte_flag false = refl
-
-opened_bound : (o : Opened) → opened_number o ≤ 2
-opened_bound Bracket = omega arith
-opened_bound Ending = omega arith
-opened_bound Otherwise = omega arith
-
-opened_back : (o : Opened) → opened_of (opened_number o) ≡ o
-unfolding opened_of
-opened_back Bracket = refl
-opened_back Ending = refl
-opened_back Otherwise = refl
-
-module _ (k n p q : ℕ) (hn : n ≤ 2) (hp : p ≤ 1) (hq : q ≤ 1) where
-  behind_back : (k * 16 + n * 4 + (p * 2 + q)) / 16 ≡ k
-  behind_back = omega arith
-
-  number_back : (k * 16 + n * 4 + (p * 2 + q)) / 4 % 4 ≡ n
-  number_back = omega arith
-
-  after_back : (k * 16 + n * 4 + (p * 2 + q)) / 2 % 2 ≡ p
-  after_back = omega arith
-
-  beside_back : (k * 16 + n * 4 + (p * 2 + q)) % 2 ≡ q
-  beside_back = omega arith
-
-abbrev packed : Opened → Bool → Bool → ℕ → ℕ
-packed o a b k = k * 16 + opened_number o * 4 + flags_number a b
-
-frame_back : (o : Opened) (a b : Bool) (k : ℕ) (xs : List ℕ) → frames_of (packed o a b k ∷ xs) ≡ framed_as o a b k (frames_of xs)
-unfolding frames_of frame_in
-frame_back o a b k xs =
-    let n = opened_bound o in
-    let p = byte_bound a in
-    let q = byte_bound b in
-    rw (
-      behind_back k (opened_number o) (bool_byte a) (bool_byte b),
-      number_back k (opened_number o) (bool_byte a) (bool_byte b),
-      after_back k (opened_number o) (bool_byte a) (bool_byte b),
-      beside_back k (opened_number o) (bool_byte a) (bool_byte b),
-      opened_back,
-      byte_flag a,
-      byte_flag b,
-    )
-
-drop_stored : (xs : List ℕ) (i v : ℕ) → i < length xs → drop i (set xs i v) ≡ v ∷ drop (suc i) xs
+drop_stored : {A : Type 0} (xs : List A) (i : ℕ) (v : A) → i < length xs → drop i (set xs i v) ≡ v ∷ drop (suc i) xs
 drop_stored xs i v h =
     let h' : i < length (set xs i v) = simp length-set h in
     let m : i < suc i = omega arith in
-    rw (drop-cons (set xs i v) i 0, get_or-set_same, drop-set-lt)
+    rw (drop-cons (set xs i v) i v, get_or-set_same, drop-set-lt)
 
-pub frame_stored : (fs : List ℕ) (left : ℕ) (o : Opened) (a b : Bool) (k : ℕ) {n m : ℕ} → n ≡ opened_number o → m ≡ flags_number a b → left < length fs
-    → stack_at left (set fs left (k * 16 + n * 4 + m)) ≡ framed_as o a b k (stack_at (suc left) fs)
-unfolding stack_at
-frame_stored fs left o a b k en em h =
-    rw (en, em) (ap frames_of (drop_stored fs left (packed o a b k) h) ∙ frame_back o a b k (drop (suc left) fs))
-
-pub frame_top : (fs : List ℕ) (left : ℕ) {f : Frame} → f ≡ frame_in (get_or fs left 0) → left < length fs → stack_at left fs ≡ framed f (stack_at (suc left) fs)
+pub frame_stored : (fs : List Frame) (left : ℕ) (f : Frame) → left < length fs → stack_at left (set fs left f) ≡ framed f (stack_at (suc left) fs)
 unfolding stack_at frames_of
-frame_top fs left e h = rw (e, drop-cons fs left 0)
+frame_stored fs left f h = ap frames_of (drop_stored fs left f h)
+
+pub frame_top : (fs : List Frame) (left : ℕ) (f : Frame) → left < length fs → stack_at left fs ≡ framed (get_or fs left f) (stack_at (suc left) fs)
+unfolding stack_at frames_of
+frame_top fs left f h = ap frames_of (drop-cons fs left f h)
 
 -- ---- The nodes
 
-pub in_few : (count : ℕ) (xs : List ℕ) → count ≤ 1024 → kept_in count xs ≡ few (drop (1024 - count) xs)
-unfolding kept_in
-in_few count xs h = rw (le-leb _ _ h)
-
-pub in_many : (count : ℕ) (xs : List ℕ) → 1024 < count → kept_in count xs ≡ many
-unfolding kept_in
-in_many count xs h = rw (lt-leb _ _ h)
-
 -- one node more, where there was a place for it
-one_more : (count : ℕ) (ys zs : List ℕ) → drop (1024 - (count + 1)) ys ≡ zs → count < 1024 → length ys ≡ 1024 → Stored (count + 1) ys (kept zs)
+one_more : (count : ℕ) (ys zs : List ℕ) → drop (1024 - (count + 1)) ys ≡ zs → count < 1024 → length ys ≡ 1024 → Stored (Some (count + 1)) ys (kept zs)
+unfolding kept_in
 one_more count ys zs e h l =
     record {
-      held = in_few (count + 1) ys (omega arith) ∙ ap few e ∙ sym (kept_few zs (omega (arith, simp length-drop at (ap length e))));
+      held = ap few e ∙ sym (kept_few zs (omega (arith, simp length-drop at (ap length e))));
       counted = omega arith;
       filled = l;
     }
 
 -- none, where there was no place
-none_more : (count : ℕ) (xs : List ℕ) (F : Kept → Kept) → F (few xs) ≡ many → F many ≡ many → 1024 ≤ count → length xs ≡ 1024 → Stored 1025 xs (F (kept_in count xs))
-none_more count xs F full over h l = record { held = in_many 1025 xs (omega arith) ∙ ⊎_elim just past (eq-or-lt_of_le h); counted = omega arith; filled = l }
-  where
-    just : 1024 ≡ count → many ≡ F (kept_in count xs)
-    just e = let z : 1024 - count ≡ 0 = omega arith in sym full ∙ ap F (sym (in_few count xs (omega arith) ∙ rw z))
+none_more : (count : ℕ) (xs : List ℕ) (F : Kept → Kept) → F (few xs) ≡ many → 1024 ≤ count → length xs ≡ 1024 → Stored None xs (F (kept_in (Some count) xs))
+unfolding kept_in
+none_more count xs F full h l = let z : 1024 - count ≡ 0 = omega arith in record { held = sym full ∙ rw z; counted = tt; filled = l }
 
-    past : 1024 < count → many ≡ F (kept_in count xs)
-    past m = sym over ∙ ap F (sym (in_many count xs m))
+pub not_told : (F : Kept → Kept) {n m : Option ℕ} (xs : List ℕ) → F many ≡ many → n ≡ None → m ≡ None → length xs ≡ 1024 → Stored m xs (F (kept_in n xs))
+unfolding kept_in
+not_told F xs full e f l = rw (e, f) (record { held = sym full; counted = tt; filled = l })
 
-pub put_one : (count : ℕ) {v x : ℕ} (xs : List ℕ) → v ≡ x → count < 1024 → length xs ≡ 1024 → Stored (count + 1) (set xs (1023 - count) v) (put_on x (kept_in count xs))
-unfolding put_on
-put_one count {x = x} xs same h l =
-    let e : drop (1024 - (count + 1)) (set xs (1023 - count) x) ≡ x ∷ drop (1024 - count) xs =
-    (let a : 1024 - (count + 1) ≡ 1023 - count = omega arith in let b : 1024 - count ≡ suc (1023 - count) = omega arith in rw (a, b) (drop_stored xs (1023 - count) x (omega arith))) in
-    rw (same, in_few count xs (omega arith)) (one_more count _ _ e h (length-set xs (1023 - count) x ∙ l))
+pub put_one : (count at : ℕ) {n : Option ℕ} {v x : ℕ} (xs : List ℕ) → n ≡ Some count → v ≡ x → at + count ≡ 1023 → length xs ≡ 1024 → Stored (Some (count + 1)) (set xs at v) (put_on x (kept_in n xs))
+unfolding put_on kept_in
+put_one count at {x = x} xs told same h l =
+    let e : drop (1024 - (count + 1)) (set xs at x) ≡ x ∷ drop (1024 - count) xs =
+    (let a : 1024 - (count + 1) ≡ at = omega arith in let b : 1024 - count ≡ suc at = omega arith in rw (a, b) (drop_stored xs at x (omega arith))) in
+    rw (told, same) (one_more count _ _ e (omega arith) (length-set xs at x ∙ l))
 
 -- a node where it is asked for
-pub stored_asked : {a : Bool} {n : ℕ} {xs : List ℕ} {B : Kept} (B' : Kept) → a ≡ true → Stored n xs B → Stored n xs (cond a B B')
+pub stored_asked : {a : Bool} {n : Option ℕ} {xs : List ℕ} {B : Kept} (B' : Kept) → a ≡ true → Stored n xs B → Stored n xs (cond a B B')
 stored_asked B' h s = rw h s
 
-pub stored_unasked : {a : Bool} {n : ℕ} {xs : List ℕ} (B : Kept) → a ≡ false → n ≤ 1025 → length xs ≡ 1024 → Stored n xs (cond a B (kept_in n xs))
+pub stored_unasked : {a : Bool} {n : Option ℕ} {xs : List ℕ} (B : Kept) → a ≡ false → Counted n → length xs ≡ 1024 → Stored n xs (cond a B (kept_in n xs))
 stored_unasked B h n l = rw h (record { held = refl; counted = n; filled = l })
 
-pub put_none : (count x : ℕ) (xs : List ℕ) → 1024 ≤ count → length xs ≡ 1024 → Stored 1025 xs (put_on x (kept_in count xs))
+pub put_none : (count x : ℕ) {n m : Option ℕ} (xs : List ℕ) → n ≡ Some count → m ≡ None → 1024 ≤ count → length xs ≡ 1024 → Stored m xs (put_on x (kept_in n xs))
 unfolding put_on
-put_none count x xs h l = none_more count xs (put_on x) (kept_many (x ∷ xs) (omega arith)) refl h l
+put_none count x xs e f h l = rw (e, f) (none_more count xs (put_on x) (kept_many (x ∷ xs) (omega arith)) h l)
 
 -- ---- A node inserted
 
@@ -154,17 +92,6 @@ module _ (zs : List ℕ) (j : ℕ) (ws : List ℕ) where
   unfolding Open
   open_set v (z, e) h = rw e (set_at (take j zs) z (drop j zs) v j (length-take-le j zs h))
 
-  open_item : Open zs j ws → j < length zs → get_or ws (suc j) 0 ≡ get_or zs j 0
-  unfolding Open
-  open_item (z, e) h =
-      let p : suc j ≡ length (take j zs) + 1 = omega (arith, length-take-le j zs (omega arith)) in
-      rw (e, p) (get_or-append-add (take j zs) (z ∷ drop j zs) 1 0 ∙ rw add-zero at (get_or-drop j zs 0 0))
-
-  open_next : Open zs j ws → j < length zs → Open zs (suc j) (set ws j (get_or ws (suc j) 0))
-  unfolding Open
-  open_next o h =
-      (get_or zs j 0, rw (open_item o h, take-suc zs j 0) (open_set (get_or zs j 0) o (omega arith) ∙ ap (λ (l : List ℕ). take j zs ++ get_or zs j 0 ∷ l) (drop-cons zs j 0 h) ∙ sym (append_assoc (take j zs) _ _)))
-
 -- the last `count` nodes, of which those before `at` have moved one place forward
 pub Shifted : ℕ → ℕ → List ℕ → List ℕ → Type 0
 Shifted count at xs ys = Open (drop (1024 - count) xs) (at + count - 1024) (drop (1023 - count) ys)
@@ -173,36 +100,41 @@ module _ (count : ℕ) (xs : List ℕ) (some : count < 1024) (filled : length xs
   count_left : length (drop (1024 - count) xs) ≡ count
   count_left = simp length-drop (omega arith)
 
-  pub shifted_none : Shifted count (1024 - count) xs xs
+  -- the nodes before `end` are copied one place forward
+  pub shifted : (end : ℕ) → 1024 - count ≤ end → end ≤ 1024 → Shifted count end xs (copy_within xs (1024 - count) end (1023 - count))
   unfolding Shifted Open
-  shifted_none =
-      let z : 1024 - count + count - 1024 ≡ 0 = omega arith in
-      let n : 1024 - count ≡ suc (1023 - count) = omega arith in
-      (get_or xs (1023 - count) 0, rw (z, n) (drop-cons xs (1023 - count) 0 (omega arith)))
+  shifted end h k =
+      let zs : List ℕ = drop (1024 - count) xs in
+      let n : ℕ = end - (1024 - count) in
+      let at : ℕ = 1023 - count in
+      let P : List ℕ = paste xs at zs n in
+      let j : n ≡ end + count - 1024 = omega arith in
+      let front : take (at + n) P ≡ take at xs ++ take n zs = take-paste xs at zs n (omega arith) (omega (arith, count_left)) in
+      let back : drop (at + n) P ≡ drop (at + n) xs = drop-paste xs at zs n (omega arith) (omega (arith, count_left)) in
+      let a : suc (at + n) ≡ 1024 - count + n = omega arith in
+      let rest : drop (at + n) xs ≡ get_or xs (at + n) 0 ∷ drop n zs =
+      drop-cons xs (at + n) 0 (omega arith) ∙ ap (λ (i : ℕ). get_or xs (at + n) 0 ∷ drop i xs) a ∙ ap (λ (l : List ℕ). get_or xs (at + n) 0 ∷ l) (sym (drop-drop n (1024 - count) xs)) in
+      let whole : P ≡ take at xs ++ (take n zs ++ (get_or xs (at + n) 0 ∷ drop n zs)) =
+      sym (take-append-drop (at + n) P) ∙ ap (λ (l : List ℕ). l ++ drop (at + n) P) front ∙ ap (λ (l : List ℕ). (take at xs ++ take n zs) ++ l) (back ∙ rest) ∙ append_assoc (take at xs) (take n zs) _ in
+      (get_or xs (at + n) 0, ap (drop at) whole ∙ drop_at (take at xs) _ at (length-take-le at xs (omega arith)) ∙ ap (λ (i : ℕ). take i zs ++ (get_or xs (at + n) 0 ∷ drop i zs)) j)
 
-  pub shifted_next : (at : ℕ) (ys : List ℕ) → Shifted count at xs ys → 1024 - count ≤ at → at < 1024 → Shifted count (at + 1) xs (set ys (at - 1) (get_or ys at 0))
-  unfolding Shifted
-  shifted_next at ys m h k =
-      let p : at + 1 + count - 1024 ≡ suc (at + count - 1024) = omega arith in
-      let q : at - 1 ≡ 1023 - count + (at + count - 1024) = omega arith in
-      let g : get_or ys at 0 ≡ get_or (drop (1023 - count) ys) (suc (at + count - 1024)) 0 =
-      (let r : at ≡ 1023 - count + suc (at + count - 1024) = omega arith in ap (λ (i : ℕ). get_or ys i 0) r ∙ sym (get_or-drop (1023 - count) ys (suc (at + count - 1024)) 0)) in
-      rw (p, q, g, drop-set-add) (open_next _ _ _ m (omega (arith, count_left)))
+  pub shifted_to : (from end at : ℕ) {ys : List ℕ} → ys ≡ copy_within xs from end at → from ≡ 1024 - count → at ≡ 1023 - count → 1024 - count ≤ end → end ≤ 1024 → Shifted count end xs ys
+  shifted_to from end at e p q h k = rw (e, p, q) (shifted _ h k)
 
-  pub inserted : (k : ℕ) {at end v : ℕ} (ys : List ℕ) → Shifted count at xs ys → v ≡ node_of 0 0 → end ≡ 1024 - min k count → at ≡ end → length ys ≡ 1024
-      → Stored (count + 1) (set ys (end - 1) v) (insert_on k (kept_in count xs))
-  unfolding Shifted insert_on
-  inserted k ys m ev ee ea l =
+  pub inserted : (k : ℕ) {at end v : ℕ} {n : Option ℕ} (ys : List ℕ) → n ≡ Some count → Shifted count at xs ys → v ≡ node_of 0 0 → end ≡ 1024 - min k count → at ≡ end → length ys ≡ 1024
+      → Stored (Some (count + 1)) (set ys (end - 1) v) (insert_on k (kept_in n xs))
+  unfolding Shifted insert_on kept_in
+  inserted k ys told m ev ee ea l =
       let j : ℕ = 1024 - min k count + count - 1024 in
       let a : 1024 - (count + 1) ≡ 1023 - count = omega arith in
       let b : 1024 - min k count - 1 ≡ 1023 - count + j = omega arith in
       let e : drop (1024 - (count + 1)) (set ys (1024 - min k count - 1) (node_of 0 0)) ≡ insert_behind k (drop (1024 - count) xs) =
       rw (a, b, drop-set-add) (open_set _ j _ (node_of 0 0) (rw (ea, ee) at m) (omega (arith, count_left)) ∙ sym (insert_split k j (drop (1024 - count) xs) (rw count_left (omega arith)))) in
-      rw (ev, ee, in_few count xs (omega arith)) (one_more count _ _ e some (length-set ys _ _ ∙ l))
+      rw (told, ev, ee) (one_more count _ _ e some (length-set ys _ _ ∙ l))
 
-pub insert_none : (count k : ℕ) (xs : List ℕ) → 1024 ≤ count → length xs ≡ 1024 → Stored 1025 xs (insert_on k (kept_in count xs))
+pub insert_none : (count k : ℕ) {n m : Option ℕ} (xs : List ℕ) → n ≡ Some count → m ≡ None → 1024 ≤ count → length xs ≡ 1024 → Stored m xs (insert_on k (kept_in n xs))
 unfolding insert_on
-insert_none count k xs h l = none_more count xs (insert_on k) (kept_many (insert_behind k xs) (omega (arith, longer))) refl h l
+insert_none count k xs e f h l = rw (e, f) (none_more count xs (insert_on k) (kept_many (insert_behind k xs) (omega (arith, longer))) h l)
   where
     longer : length (insert_behind k xs) ≡ suc (length xs)
     longer = ap length (insert_split k (length xs - min k (length xs)) xs (omega arith)) ∙ simp (length-append, length-take, length-drop) (omega arith)

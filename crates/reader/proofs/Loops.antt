@@ -1,27 +1,34 @@
 -- The loop over a text: what was read of it brought the machine where the reader is, and the text is what is left before those parts.
 use Prim.Native.Nat.{ℕ, ◌≤◌, ◌<◌}
 use mathlib.Core.Path.{◌≡◌, refl, sym, ap, ◌∙◌, subst}
-use mathlib.Core.Bool.{Bool, true, false, ◌&&◌}
-use mathlib.Core.Option.{none}
+use mathlib.Core.Bool.{Bool, true, false, not, ◌&&◌}
+use mathlib.Core.Option.{none, some}
 use mathlib.Core.List.{List, [], ◌∷◌, ◌++◌}
 use native.Mathlib.Omega.{arith}
-use lib.ListN.{length, take, get_or, drop_of_length-le}
-use lib.Seq.{take-length}
+use lib.ListN.{length, get_or, drop, drop_of_length-le}
+use lib.Seq.{drop-cons}
+use borrow.Author.Tests.{not-true, not-false}
+use Rattle.std.specs.Prelude.{Result, Some, Ok, Err, ok_or}
+use denote.Ref.{Bor}
+use Rattle.std.specs.Prelude as std
 use Rattle.sets.proofs.Booleans.{clash}
 use Rattle.reader.specs.declared.moves.Reader.{Reader}
-use Rattle.reader.specs.declared.moves.Taken.{Taken}
-use Rattle.reader.specs.declared.moves.Taken.TheVariants as taken
+use Rattle.reader.specs.declared.moves.Room.{Room}
+use Rattle.table.specs.declared.Refusal.{Refusal}
+use Rattle.table.specs.declared.Refusal.TheVariants.{Grammar, Count}
+use Rattle.reader.specs.declared.frames.Opened.{Opened}
+use Rattle.reader.specs.declared.frames.Opened.TheVariants.{Bracket, Ending, Otherwise}
 use Rattle.text.specs.Parts.{Part}
 use Rattle.text.specs.inner.Lexer.{Class, Edge, edge, at, flushed, add_blank, take as takes, lex, all_of, finished, rest, parts_in}
 use Rattle.text.proofs.Lexer.{class_blank}
 use Rattle.reader.specs.inner.Ending.{blank_byte, Skipped}
-use Rattle.reader.specs.inner.Nodes.{all_ranged, Kept, few, Work, due, work_all, made, begun, broken, verdict_for, verdict_in, verdict_of, Frames, bottom}
-use Rattle.reader.specs.inner.Held.{kept_in, due_state, work_at, Ready, Clean, Doomed, Advanced, Took, Begins}
+use Rattle.reader.specs.inner.Nodes.{all_ranged, Kept, few, Work, due, aside, work_all, whole_nodes, made, begun, Verdict, broken, outside, verdict_for, verdict_in, verdict_of, Frames, bottom}
+use Rattle.reader.specs.inner.Kept.{kept_in, Stored}
+use Rattle.reader.specs.inner.Held.{framed_as, frames_of, stack_at, nodes_of, due_state, met_state, state, Ready, Clean, Doomed, Took, Begins, Found}
 use Rattle.reader.proofs.Blanks.{blank_cases}
-use Rattle.reader.proofs.Held.{in_few}
 use Rattle.reader.proofs.Moving.{at_60}
 use Rattle.reader.proofs.Working.{work_append}
-use Rattle.reader.proofs.Taking.{range_append}
+use Rattle.reader.proofs.Taking.{range_append, Goes}
 
 -- ---- A text that begins with a blank
 
@@ -40,64 +47,55 @@ blank_first (b ∷ bs) e =
 
 -- ---- The loop
 
--- the parts behind `end` brought the machine where the reader is
-pub record Parsing (bs : List ℕ) (end : ℕ) (isDue ranged : Bool) (r : Reader) (fs xs : List ℕ) : Type 0 where
+-- the parts behind u brought the machine where the reader is, and bs is u and those parts
+pub record Parsing (bs u : List ℕ) (r : Reader) (m : Room) : Type 0 where
   pub parts : List Part
-  pub goes_on : rest (take end bs) parts ≡ parts_in bs
-  pub worked : work_all parts begun ≡ work_at isDue r fs xs
-  pub within : ranged ≡ all_ranged parts
-  pub clean : Clean bs end parts
-  pub ready : Ready r fs xs
-  pub below : end ≤ length bs
-  pub solid : blank_byte (get_or bs 0 0) ≡ false
+  pub goes_on : rest u parts ≡ parts_in bs
+  pub worked : work_all parts begun ≡ state r m
+  pub within : r.ranged ≡ all_ranged parts
+  pub clean : Clean u parts
+  pub ready : Ready r m
+  pub solid : blank_byte (get_or u 0 0) ≡ false
 
-pub parsing_none : (bs fs xs : List ℕ) → length fs ≡ 60 → length xs ≡ 1024 → blank_byte (get_or bs 0 0) ≡ false
-    → Parsing bs (length bs) true true (record { after = false; beside = false; left = 60; count = 0 }) fs xs
-unfolding parts_in work_all work_at due_state begun all_ranged Clean
-parsing_none bs fs xs lf lx e =
-    let nothing-kept : kept_in 0 xs ≡ few [] = in_few 0 xs (omega arith) ∙ ap few (drop_of_length-le xs {i = 1024} (omega arith)) in
+pub parsing_none : (bs : List ℕ) (m : Room) → length m.frames ≡ 60 → length m.nodes ≡ 1024 → blank_byte (get_or bs 0 0) ≡ false
+    → Parsing bs bs (record { is_due = true; ranged = true; after = false; beside = false; left = 60; count = Some 0 }) m
+unfolding parts_in work_all state due_state begun all_ranged Clean kept_in
+parsing_none bs m lf lx e =
+    let nothing-kept : few (drop 1024 m.nodes) ≡ few [] = ap few (drop_of_length-le m.nodes {i = 1024} (omega arith)) in
     record {
       parts = [];
-      goes_on = ap (λ (u : List ℕ). rest u []) (take-length bs);
-      worked = sym (ap (λ (K : Frames). due 60 false false K (kept_in 0 xs)) (at_60 fs refl lf) ∙ ap (λ (B : Kept). due 60 false false bottom B) nothing-kept);
+      goes_on = refl;
+      worked = sym (ap (λ (K : Frames). due 60 false false K (few (drop 1024 m.nodes))) (at_60 m.frames refl lf) ∙ ap (λ (B : Kept). due 60 false false bottom B) nothing-kept);
       within = refl;
       clean = λ b. refl;
       ready = record { room = omega arith; counted = omega arith; frames = lf; nodes = lx };
-      below = omega arith;
       solid = e;
     }
 
--- what was taken from `end` to `at` brought the reader on
-pub record Turned (bs : List ℕ) (end at : ℕ) (x : Work) (isDue ranged ranged' : Bool) (r : Reader) (fs xs : List ℕ) : Type 0 where
-  pub advanced : Advanced bs end at x (work_at isDue r fs xs) ranged ranged'
-  pub ready : Ready r fs xs
-
-module _ {bs : List ℕ} {end : ℕ} {x : Work} {ranged ranged' : Bool} {fs xs : List ℕ} {t : Taken} {at start : ℕ} {r s : Reader} {isDue : Bool} (k : Took bs end x ranged t ranged' fs xs) where
-  pub turned_due : t ≡ taken.Due at r → s ≡ r → isDue ≡ true → start ≡ at → Turned bs end start x isDue ranged ranged' s fs xs
-  unfolding work_at
-  turned_due e f g h = let k' = subst (λ (z : Taken). Took bs end x ranged z ranged' fs xs) e k in rw (f, g, h) (record { advanced = k'.0; ready = k'.1 })
-
-  pub turned_met : t ≡ taken.Met at r → s ≡ r → isDue ≡ false → start ≡ at → Turned bs end start x isDue ranged ranged' s fs xs
-  unfolding work_at
-  turned_met e f g h = let k' = subst (λ (z : Taken). Took bs end x ranged z ranged' fs xs) e k in rw (f, g, h) (record { advanced = k'.0; ready = k'.1 })
-
-module _ {bs : List ℕ} {end : ℕ} {isDue ranged : Bool} {r : Reader} {fs xs : List ℕ} (p : Parsing bs end isDue ranged r fs xs) where
-  pub begins : 1 ≤ end → Begins bs end
-  begins h = record { some = h; within = p.below; solid = p.solid }
+module _ {bs u : List ℕ} {r : Reader} {m : Room} (p : Parsing bs u r m) where
+  pub begins : 1 ≤ length u → Begins u
+  begins h = record { some = h; solid = p.solid }
 
   -- nothing that suits ends there
-  pub parsing_broken : {t : Taken} (ranged' : Bool) (gs ys : List ℕ) → t ≡ taken.Broken → Took bs end (work_at isDue r fs xs) ranged t ranged' gs ys → broken ≡ verdict_of bs
+  pub parsing_broken : Doomed u (state r m) → verdict_of bs ≡ broken
   unfolding Doomed verdict_of
-  parsing_broken ranged' gs ys e k =
-      let d = subst (λ (z : Taken). Took bs end (work_at isDue r fs xs) ranged z ranged' gs ys) e k in
-      sym (ap verdict_in (sym p.goes_on) ∙ d p.parts p.clean p.worked)
+  parsing_broken d = ap verdict_in (sym p.goes_on) ∙ d p.parts p.clean p.worked
+
+  -- what was taken, or none of it
+  pub stopped : (o : std.Option (Bor (List ℕ) × Reader)) (q : Room) (e : Refusal) → Took u (state r m) r.ranged o q → Err e ≡ ok_or o Grammar → (verdict_of bs ≡ broken) × (e ≡ Grammar)
+  stopped std.None q e d h = (parsing_broken d, cc)
+  stopped (std.Some p) q e t h = let z : ◌≡◌ {A = ℕ} 0 1 = cc in absurd (omega arith)
+
+  pub taken : (o : std.Option (Bor (List ℕ) × Reader)) (q : Room) (v : Bor (List ℕ)) (s : Reader) → Took u (state r m) r.ranged o q → Ok (v, s) ≡ ok_or o Grammar → Goes u v.now (state r m) r.ranged s q
+  taken std.None q v s d h = let z : ◌≡◌ {A = ℕ} 0 1 = cc in absurd (omega arith)
+  taken (std.Some p) q v s t h =
+      let e : (v, s) ≡ p = cc in
+      subst (λ (z : Bor (List ℕ) × Reader). Goes u z.0.now (state r m) r.ranged z.1 q) (sym e) t
 
   -- parts were taken, and the blanks before them
-  pub parsing_more : {start next : ℕ} {isDue' ranged' : Bool} {s : Reader} {gs ys : List ℕ} → Turned bs end start (work_at isDue r fs xs) isDue' ranged ranged' s gs ys → Skipped bs start next
-      → Parsing bs next isDue' ranged' s gs ys
+  pub parsing_more : {v w : List ℕ} {s : Reader} {q : Room} → Goes u v (state r m) r.ranged s q → Skipped v w → Parsing bs w s q
   unfolding Clean
-  parsing_more t k =
-      let A = t.advanced in
+  parsing_more (A, R) k =
       let first : List Part = A.part ∷ A.parts in
       record {
         parts = first ++ p.parts;
@@ -105,22 +103,58 @@ module _ {bs : List ℕ} {end : ℕ} {isDue ranged : Bool} {r : Reader} {fs xs :
         worked = work_append first p.parts begun ∙ ap (work_all first) p.worked ∙ sym A.worked;
         within = A.within ∙ ap (λ (z : Bool). all_ranged first && z) p.within ∙ sym (range_append first p.parts);
         clean = λ b. absurd (clash b k.solid);
-        ready = t.ready;
-        below = omega (arith, A.shorter, k.below, p.below);
-        solid = p.solid;
+        ready = R;
+        solid = k.first;
       }
 
-  module _ {start : ℕ} {x : Work} {isDue' ranged' : Bool} {s : Reader} {gs ys : List ℕ} (t : Turned bs end start x isDue' ranged ranged' s gs ys) where
-    pub turned_within : (start ≤ length bs) × (blank_byte (get_or bs 0 0) ≡ false)
-    turned_within = (omega (arith, t.advanced.shorter, p.below), p.solid)
-
-    pub turned_shorter : {next : ℕ} → Skipped bs start next → next < end
-    turned_shorter k = omega (arith, t.advanced.shorter, k.below)
-
   -- all was read
-  pub parsing_done : end ≡ 0 → verdict_for ranged (made (work_at isDue r fs xs)) ≡ verdict_of bs
+  pub parsing_done : length u ≡ 0 → verdict_for r.ranged (made (state r m)) ≡ verdict_of bs
   unfolding verdict_of verdict_in rest lex finished flushed all_of
   parsing_done e =
-      sym (ap verdict_in (sym p.goes_on) ∙ ap (λ (n : ℕ). verdict_in (rest (take n bs) p.parts)) e
+      sym (ap verdict_in (sym p.goes_on) ∙ ap (λ (v : List ℕ). verdict_in (rest v p.parts)) (empty u e)
       ∙ ap (λ (z : Bool). verdict_for z (made (work_all p.parts begun))) (sym p.within)
-      ∙ ap (λ (y : Work). verdict_for ranged (made y)) p.worked)
+      ∙ ap (λ (y : Work). verdict_for r.ranged (made y)) p.worked)
+    where
+      empty : (v : List ℕ) → length v ≡ 0 → v ≡ []
+      empty [] h = refl
+      empty (b ∷ v) h = absurd (omega arith)
+
+-- ---- All was read
+
+pub found_as : {v w : Verdict} (r : Result ℕ Refusal) (xs : List ℕ) → v ≡ w → Found w r xs → Found v r xs
+found_as r xs e F = subst (λ (z : Verdict). Found z r xs) (sym e) F
+
+pub finished_due : (r : Reader) (m : Room) → r.is_due ≡ true → verdict_for r.ranged (made (state r m)) ≡ broken
+unfolding state due_state made verdict_for
+finished_due r m e = rw e
+
+framed_unwhole : (B : Kept) (o : Opened) (a b : Bool) (k : ℕ) (K : Frames) → whole_nodes B (framed_as o a b k K) ≡ none
+unfolding whole_nodes framed_as
+framed_unwhole B Bracket a b k K = refl
+framed_unwhole B Ending a b k K = refl
+framed_unwhole B Otherwise a b k K = refl
+
+module _ (r : Reader) (m : Room) (isMet : r.is_due ≡ false) (R : Ready r m) where
+  pub finished_open : (r.left ≡ 60 → ⊥) → verdict_for r.ranged (made (state r m)) ≡ broken
+  unfolding state met_state made verdict_for stack_at frames_of
+  finished_open n =
+      let room = R.room in
+      let long = R.frames in
+      let some : r.left < length m.frames = omega arith in
+      rw (isMet, drop-cons m.frames r.left (record { opened = Bracket; after = false; beside = false; behind = 0 }), framed_unwhole)
+
+  module _ (all : r.left ≡ 60) where
+    made_whole : made (state r m) ≡ some (aside r.beside (nodes_of r m))
+    unfolding state met_state made whole_nodes
+    made_whole = rw (isMet, at_60 m.frames all R.frames)
+
+    pub finished_outside : not r.ranged ≡ true → verdict_for r.ranged (made (state r m)) ≡ outside
+    unfolding verdict_for
+    finished_outside e = ap (λ (z : Bool). verdict_for z (made (state r m))) (not-true r.ranged e) ∙ ap (verdict_for false) made_whole
+
+    -- the nodes with that of the `||` behind them, as they are counted
+    pub finished_whole : not r.ranged ≡ false → (n : std.Option ℕ) (ys : List ℕ) → Stored n ys (aside r.beside (nodes_of r m)) → (x : Result ℕ Refusal) → x ≡ ok_or n Count → Found (verdict_for r.ranged (made (state r m))) x ys
+    unfolding verdict_for kept_in
+    finished_whole inside std.None ys S x e = found_as x ys (ap (λ (z : Bool). verdict_for z (made (state r m))) (not-false r.ranged inside) ∙ ap (verdict_for true) (made_whole ∙ ap some (sym S.held))) e
+    finished_whole inside (std.Some n) ys S x e =
+        found_as x ys (ap (λ (z : Bool). verdict_for z (made (state r m))) (not-false r.ranged inside) ∙ ap (verdict_for true) (made_whole ∙ ap some (sym S.held))) (record { count = n; is = e; counted = S.counted; filled = S.filled; stand = refl })

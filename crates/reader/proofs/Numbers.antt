@@ -1,25 +1,27 @@
 -- The number at the end of a text: the digits that end there are found in one way only, and are a number unless they begin with 0.
 use Prim.Native.Nat.{ℕ, zero, suc, ◌+◌, ◌-◌, ◌*◌, ◌/◌, ◌%◌, ◌≤◌, ◌<◌}
 use mathlib.Core.Path.{◌≡◌, refl, sym, ap, ◌∙◌, subst}
-use mathlib.Core.Bool.{Bool, true, false, cond}
+use mathlib.Core.Bool.{Bool, true, false, cond, true≢false}
 use mathlib.Core.Option.{none, none-ne-some}
 use mathlib.Core.List.{List, [], ◌∷◌, ◌++◌, append-nil, append_assoc, tail-eq_of_cons-eq}
+use native.Mathlib.Nat.{add-zero}
 use native.Mathlib.Omega.{arith}
 use lib.Dec.{ltb}
-use lib.ListN.{length, get_or, take, take-append-drop}
-use lib.Seq.{slice, slice_empty, slice-cons, take-take}
+use lib.ListN.{length, get_or, take, drop, take-append-drop, length-take, length-append}
+use lib.Seq.{drop_at, get_or-append-add}
 use borrow.Author.Tests.{ltb-true, ltb-false}
-use Rattle.sets.proofs.Booleans.{clash}
+use Rattle.std.specs.Char.{is_ascii_digit}
+use Rattle.std.proofs.lemmas.Bool.Decides.{nat_tests}
+use Rattle.sets.proofs.Booleans.{clash, not_true}
 use Rattle.text.specs.Parts.{number}
 use Rattle.text.specs.Spelling.{digits, last_of}
 use Rattle.text.specs.inner.Lexer.{is_digit, scan, digit_first, numeral}
 use Rattle.text.proofs.Decimal.{digit_range, is_digit_lem, digits_one, digits_long, digits_more, numeral_digits, begins}
 use Rattle.text.proofs.Spelling.{last_append}
-use Rattle.reader.specs.declared.lexing.Digits.TheVariants.{Broken}
+use Rattle.std.specs.Prelude.{None}
 use Rattle.reader.specs.inner.Nodes.{clip}
-use Rattle.reader.specs.inner.Ending.{Figures, Number, Numbers}
-use Rattle.reader.proofs.Bytes.{last_take}
-use Rattle.reader.proofs.Places.{last_place}
+use Rattle.reader.specs.inner.Ending.{Figures, Three, Number, Numbers}
+use Rattle.reader.proofs.Bytes.{last_apart, last_at, last_none}
 use Rattle.reader.proofs.Working.{clip_small, clip_large}
 
 -- ---- Bytes that are digits
@@ -110,114 +112,136 @@ continued v (d ∷ ds) l h =
     let C = continued (v * 10 + (d - 48)) ds (omega arith) h.1 in
     record { number = C.number; spelt = C.spelt ∙ digits_next v d ds l h.0; grown = omega arith }
 
--- ---- The digits before a place
+-- ---- Digits at the end of a text
 
--- what a test of the byte there says
-pub tested : {b x : ℕ} {r z : Bool} → b ≡ x → r ≡ is_digit b → r ≡ z → is_digit x ≡ z
-tested e f g = sym (ap is_digit e) ∙ sym f ∙ g
+pub no_number : (u : List ℕ) → is_digit (last_of u) ≡ false → Numbers u None
+no_number u f v m e g = clash (ap (λ (x : List ℕ). is_digit (last_of x)) e ∙ last_digits v m) f
 
-pub digit_before : (bs : List ℕ) (n : ℕ) → is_digit (last_of (take n bs)) ≡ true → 1 ≤ n
-digit_before bs n e = last_place bs n refl (omega (arith, digit_range (last_of (take n bs)) e))
+pub no_digit : (u : List ℕ) → length u ≡ 0 → is_digit (last_of u) ≡ false
+unfolding is_digit
+no_digit u h = rw (← last_none u (omega arith))
 
-pub no_number : (bs : List ℕ) (end : ℕ) → is_digit (last_of (take end bs)) ≡ false → Numbers bs end Broken
-no_number bs end f v m e g = clash (ap (λ (x : List ℕ). is_digit (last_of x)) e ∙ last_digits v m) f
+-- u is w and two digits, of which the second was cut off first
+pub two_apart : (u v : List ℕ) (ones tens : ℕ) → u ≡ v ++ (ones ∷ []) → 1 ≤ length v → tens ≡ last_of v → u ≡ take (length v - 1) v ++ (tens ∷ ones ∷ [])
+two_apart u v ones tens e l h =
+    e
+    ∙ ap (λ (x : List ℕ). x ++ (ones ∷ [])) (last_apart v l ∙ ap (λ (b : ℕ). take (length v - 1) v ++ (b ∷ [])) (last_at v l ∙ sym h))
+    ∙ append_assoc (take (length v - 1) v) (tens ∷ []) (ones ∷ [])
 
-module _ (bs : List ℕ) (end : ℕ) (within : end ≤ length bs) where
-  one_before : (n : ℕ) → 1 ≤ n → n ≤ end → slice (n - 1) end bs ≡ last_of (take n bs) ∷ slice n end bs
-  one_before n l h =
-      let e : suc (n - 1) ≡ n = omega arith in
-      slice-cons (n - 1) end bs 0 (omega arith) within ∙ ap (λ (i : ℕ). get_or bs (n - 1) 0 ∷ slice i end bs) e ∙ ap (λ (b : ℕ). b ∷ slice n end bs) (sym (last_take bs n l (omega arith)))
+pub some_digit : (u : List ℕ) → is_digit (last_of u) ≡ true → 1 ≤ length u
+unfolding last_of is_digit
+some_digit [] e = absurd (true≢false (sym e))
+some_digit (b ∷ u) e = omega arith
 
-  pub figures_more : (n : ℕ) → n ≤ end → is_digit (last_of (take n bs)) ≡ true → Figures (slice n end bs) → Figures (slice (n - 1) end bs)
-  figures_more n h e k = subst Figures (sym (one_before n (digit_before bs n e) h)) (e, k)
+-- the last byte is no digit
+pub undigit : (u : List ℕ) → (1 ≤ length u → 48 ≤ get_or u (length u - 1) 0 → get_or u (length u - 1) 0 ≤ 57 → ⊥) → is_digit (last_of u) ≡ false
+undigit u f =
+    not_true (is_digit (last_of u)) (λ e. let l = some_digit u e in let r = digit_range (last_of u) e in f l (omega (arith, last_at u l)) (omega (arith, last_at u l)))
 
-  module _ (start : ℕ) (shorter : start < end) (bounded : is_digit (last_of (take start bs)) ≡ false) where
-    cut : take end bs ≡ take start bs ++ slice start end bs
-    cut = sym (take-append-drop start (take end bs)) ∙ ap (λ (x : List ℕ). x ++ slice start end bs) (take-take start end bs (omega arith))
+pub ascii_digit : (b : ℕ) → is_ascii_digit b ≡ is_digit b
+unfolding is_digit
+ascii_digit b = grind (arith, nat_tests)
 
-    number_at : (m value : ℕ) → digits m ≡ slice start end bs → clip m ≡ value → Number bs end start value
-    number_at m value e h =
-        record { number = m; spelt = cut ∙ ap (λ (x : List ℕ). take start bs ++ x) (sym e); held = h; bounded = bounded; shorter = shorter }
+-- what the test of a byte says, and of a last byte
+pub tested : (b : ℕ) {r z : Bool} → r ≡ is_ascii_digit b → r ≡ z → is_digit b ≡ z
+tested b f g = sym (ascii_digit b) ∙ sym f ∙ g
 
-    zero_first : (d : ℕ) (ds : List ℕ) → slice start end bs ≡ 48 ∷ d ∷ ds → Figures (slice start end bs) → Numbers bs end Broken
-    zero_first d ds e h v m p f =
-        let figures : Figures (48 ∷ d ∷ ds) = subst Figures e h in
-        leading_zero d ds m figures.1.0 ((figures_same v (take start bs) (digits m) (slice start end bs) (sym p ∙ cut) f bounded (figures_digits m) h).1 ∙ e)
+pub last_tested : (v : List ℕ) {b : ℕ} {r z : Bool} → b ≡ last_of v → r ≡ is_ascii_digit b → r ≡ z → is_digit (last_of v) ≡ z
+last_tested v {b} e f g = ap is_digit (sym e) ∙ tested b f g
 
-  -- ---- One digit, or two
+-- u is v and digits behind it
+pub record Behind (u v : List ℕ) : Type 0 where
+  pub figures : List ℕ
+  pub cut : u ≡ v ++ figures
+  pub all : Figures figures
 
-  module _ (ones tens : ℕ) (o : ones ≡ last_of (take end bs)) (t : tens ≡ last_of (take (end - 1) bs)) (d : is_digit ones ≡ true) where
-    pub some_before : 1 ≤ end
-    some_before = digit_before bs end (ap is_digit (sym o) ∙ d)
+pub behind_none : (u : List ℕ) → Behind u u
+behind_none u = record { figures = []; cut = sym (append-nil u); all = tt }
 
-    one_digit : slice (end - 1) end bs ≡ ones ∷ []
-    one_digit =
-        one_before end some_before (omega arith) ∙ ap (λ (x : List ℕ). last_of (take end bs) ∷ x) (slice_empty end bs) ∙ ap (λ (b : ℕ). b ∷ []) (sym o)
+pub behind_more : (u v w : List ℕ) (b : ℕ) → Behind u v → v ≡ w ++ (b ∷ []) → is_digit b ≡ true → Behind u w
+behind_more u v w b B e h =
+    record {
+      figures = b ∷ B.figures;
+      cut = B.cut ∙ ap (λ (x : List ℕ). x ++ B.figures) e ∙ append_assoc w (b ∷ []) B.figures;
+      all = (h, B.all);
+    }
 
-    pub number_one : is_digit tens ≡ false → Number bs end (end - 1) (ones - 48)
-    number_one f =
-        let l = some_before in
+-- three digits, which the tests of a number found
+pub three_digits : (u v w : List ℕ) (ones : ℕ) → u ≡ v ++ (ones ∷ []) → is_digit ones ≡ true → 1 ≤ length v → is_digit (last_of v) ≡ true → w ≡ take (length v - 1) v → is_digit (last_of w) ≡ true → Three u
+three_digits u v w ones e d l h f k =
+    let one = behind_more u u v ones (behind_none u) e d in
+    let tens : is_digit (get_or v (length v - 1) 0) ≡ true = ap is_digit (last_at v l) ∙ h in
+    let two = behind_more u v w (get_or v (length v - 1) 0) one (last_apart v l ∙ ap (λ (x : List ℕ). x ++ (get_or v (length v - 1) 0 ∷ [])) (sym f)) tens in
+    let some = some_digit w k in
+    let three = behind_more u w (take (length w - 1) w) (get_or w (length w - 1) 0) two (last_apart w some) (ap is_digit (last_at w some) ∙ k) in
+    let n : length u - 3 ≡ length (take (length w - 1) w) = omega (arith, length-take (length w - 1) w, ap length e, length-append v (ones ∷ []), ap length f, length-take (length v - 1) v) in
+    record {
+      long = omega (arith, length-take (length w - 1) w, ap length e, length-append v (ones ∷ []), ap length f, length-take (length v - 1) v);
+      figures = subst Figures (sym (ap (drop (length u - 3)) three.cut ∙ drop_at (take (length w - 1) w) three.figures (length u - 3) (sym n))) three.all;
+    }
+
+pub three_behind : (u : List ℕ) → Three u → Behind u (take (length u - 3) u)
+three_behind u t = record { figures = drop (length u - 3) u; cut = sym (take-append-drop (length u - 3) u); all = t.figures }
+
+-- the first byte of those behind v
+pub first_behind : (u v : List ℕ) (B : Behind u v) → get_or B.figures 0 0 ≡ get_or u (length v) 0
+first_behind u v B =
+    let e : get_or u (length v) 0 ≡ get_or (v ++ B.figures) (length v + 0) 0 = rw add-zero (ap (λ (x : List ℕ). get_or x (length v) 0) B.cut) in
+    sym (e ∙ get_or-append-add v B.figures 0 0)
+
+pub behind_length : (u v : List ℕ) (B : Behind u v) → length v + length B.figures ≡ length u
+behind_length u v B = sym (ap length B.cut ∙ length-append v B.figures)
+
+module _ (u v ds : List ℕ) (spelt : u ≡ v ++ ds) (bounded : is_digit (last_of v) ≡ false) where
+  number_at : (m value : ℕ) → digits m ≡ ds → clip m ≡ value → Number u v value
+  number_at m value e h =
+      record { number = m; spelt = spelt ∙ ap (λ (x : List ℕ). v ++ x) (sym e); held = h; bounded = bounded }
+
+  zero_first : (d : ℕ) (es : List ℕ) → ds ≡ 48 ∷ d ∷ es → Figures ds → Numbers u None
+  zero_first d es e h w m p f =
+      let figures : Figures (48 ∷ d ∷ es) = subst Figures e h in
+      leading_zero d es m figures.1.0 ((figures_same w v (digits m) ds (sym p ∙ spelt) f bounded (figures_digits m) h).1 ∙ e)
+
+  pub number_one : (ones : ℕ) → ds ≡ ones ∷ [] → is_digit ones ≡ true → Number u v (ones - 48)
+  number_one ones e d =
+      let r = digit_range ones d in
+      number_at (ones - 48) (ones - 48) (digits_first ones d ∙ sym e) (clip_small (ones - 48) (omega arith))
+
+  module _ (tens ones : ℕ) (e : ds ≡ tens ∷ ones ∷ []) (k : is_digit tens ≡ true) (d : is_digit ones ≡ true) where
+    pub zero_then_one : tens ≡ 48 → Numbers u None
+    zero_then_one z = zero_first ones [] (e ∙ ap (λ (b : ℕ). b ∷ ones ∷ []) z) (subst Figures (sym e) (k, (d, tt)))
+
+    pub number_two : (tens ≡ 48 → ⊥) → Number u v ((tens - 48) * 10 + (ones - 48))
+    number_two z =
         let r = digit_range ones d in
-        number_at (end - 1) (omega arith) (ap is_digit (sym t) ∙ f) (ones - 48) (ones - 48) (digits_first ones d ∙ sym one_digit) (clip_small (ones - 48) (omega arith))
+        let s = digit_range tens k in
+        let more : 1 ≤ tens - 48 = omega (arith, z) in
+        number_at ((tens - 48) * 10 + (ones - 48)) ((tens - 48) * 10 + (ones - 48))
+        (sym (append-nil (digits ((tens - 48) * 10 + (ones - 48)))) ∙ digits_next (tens - 48) ones [] more d ∙ ap (λ (x : List ℕ). x ++ (ones ∷ [])) (digits_first tens k) ∙ sym e)
+        (clip_small ((tens - 48) * 10 + (ones - 48)) (omega arith))
 
-    module _ (k : is_digit tens ≡ true) where
-      pub two_before : 2 ≤ end
-      two_before = let l = digit_before bs (end - 1) (ap is_digit (sym t) ∙ k) in omega arith
-
-      two_digits : slice (end - 2) end bs ≡ tens ∷ ones ∷ []
-      two_digits =
-          let l = two_before in
-          let e : end - 2 ≡ end - 1 - 1 = omega arith in
-          ap (λ (i : ℕ). slice i end bs) e ∙ one_before (end - 1) (omega arith) (omega arith) ∙ ap (λ (b : ℕ). b ∷ slice (end - 1) end bs) (sym t) ∙ ap (λ (x : List ℕ). tens ∷ x) one_digit
-
-      both : Figures (slice (end - 2) end bs)
-      both = subst Figures (sym two_digits) (k, (d, tt))
-
-      pub three_digits : is_digit (last_of (take (end - 2) bs)) ≡ true → (3 ≤ end) × Figures (slice (end - 3) end bs)
-      three_digits h =
-          let l = digit_before bs (end - 2) h in
-          let e : end - 2 - 1 ≡ end - 3 = omega arith in
-          (omega arith, subst (λ (i : ℕ). Figures (slice i end bs)) e (figures_more (end - 2) (omega arith) h both))
-
-      module _ (bounded : is_digit (last_of (take (end - 2) bs)) ≡ false) where
-        pub zero_then_one : tens ≡ 48 → Numbers bs end Broken
-        zero_then_one z =
-            let l = two_before in
-            zero_first (end - 2) (omega arith) bounded ones [] (two_digits ∙ ap (λ (b : ℕ). b ∷ ones ∷ []) z) both
-
-        pub number_two : (tens ≡ 48 → ⊥) → Number bs end (end - 2) ((tens - 48) * 10 + (ones - 48))
-        number_two z =
-            let l = two_before in
-            let r = digit_range ones d in
-            let s = digit_range tens k in
-            let more : 1 ≤ tens - 48 = omega (arith, z) in
-            number_at (end - 2) (omega arith) bounded ((tens - 48) * 10 + (ones - 48)) ((tens - 48) * 10 + (ones - 48))
-            (sym (append-nil (digits ((tens - 48) * 10 + (ones - 48)))) ∙ digits_next (tens - 48) ones [] more d ∙ ap (λ (x : List ℕ). x ++ (ones ∷ [])) (digits_first tens k) ∙ sym two_digits)
-            (clip_small ((tens - 48) * 10 + (ones - 48)) (omega arith))
-
-  -- ---- Three digits or more
-
-  module _ (start : ℕ) (long : start + 3 ≤ end) (figures : Figures (slice start end bs)) (bounded : is_digit (last_of (take start bs)) ≡ false) where
-    three_first : slice start end bs ≡ get_or bs start 0 ∷ get_or bs (suc start) 0 ∷ get_or bs (suc (suc start)) 0 ∷ slice (suc (suc (suc start))) end bs
-    three_first =
-        slice-cons start end bs 0 (omega arith) within
-        ∙ ap (λ (x : List ℕ). get_or bs start 0 ∷ x) (slice-cons (suc start) end bs 0 (omega arith) within)
-        ∙ ap (λ (x : List ℕ). get_or bs start 0 ∷ get_or bs (suc start) 0 ∷ x) (slice-cons (suc (suc start)) end bs 0 (omega arith) within)
-
-    pub zero_then_more : get_or bs start 0 ≡ 48 → Numbers bs end Broken
-    zero_then_more z =
-        let ds = get_or bs (suc (suc start)) 0 ∷ slice (suc (suc (suc start))) end bs in
-        zero_first start (omega arith) bounded (get_or bs (suc start) 0) ds (three_first ∙ ap (λ (x : ℕ). x ∷ get_or bs (suc start) 0 ∷ ds) z) figures
-
-    pub number_long : (get_or bs start 0 ≡ 48 → ⊥) → Number bs end start 100
-    number_long z = go (get_or bs start 0) (get_or bs (suc start) 0) (get_or bs (suc (suc start)) 0) (slice (suc (suc (suc start))) end bs) z three_first (subst Figures three_first figures)
+  -- three digits or more
+  module _ (long : 3 ≤ length ds) (figures : Figures ds) where
+    pub zero_then_more : get_or ds 0 0 ≡ 48 → Numbers u None
+    zero_then_more z = go ds refl long z
       where
-        go : (a b c : ℕ) (ds : List ℕ) → (a ≡ 48 → ⊥) → slice start end bs ≡ a ∷ b ∷ c ∷ ds → Figures (a ∷ b ∷ c ∷ ds) → Number bs end start 100
-        go a b c ds z e (ha, (hb, (hc, hs))) =
+        go : (es : List ℕ) → ds ≡ es → 3 ≤ length es → get_or es 0 0 ≡ 48 → Numbers u None
+        go [] e l z = absurd (omega arith)
+        go (a ∷ []) e l z = absurd (omega arith)
+        go (a ∷ b ∷ es) e l z = zero_first b es (e ∙ ap (λ (x : ℕ). x ∷ b ∷ es) z) figures
+
+    pub number_long : (get_or ds 0 0 ≡ 48 → ⊥) → Number u v 100
+    number_long z = go ds refl long z figures
+      where
+        go : (es : List ℕ) → ds ≡ es → 3 ≤ length es → (get_or es 0 0 ≡ 48 → ⊥) → Figures es → Number u v 100
+        go [] e l z h = absurd (omega arith)
+        go (a ∷ []) e l z h = absurd (omega arith)
+        go (a ∷ b ∷ []) e l z h = absurd (omega arith)
+        go (a ∷ b ∷ c ∷ es) e l z (ha, (hb, (hc, hs))) =
             let r = digit_range a ha in
-            let u : 1 ≤ a - 48 = omega (arith, z) in
-            let v : 10 ≤ (a - 48) * 10 + (b - 48) = omega arith in
-            let C = continued (((a - 48) * 10 + (b - 48)) * 10 + (c - 48)) ds (omega arith) hs in
-            number_at start (omega arith) bounded C.number 100
-            (C.spelt ∙ digits_next ((a - 48) * 10 + (b - 48)) c ds (omega arith) hc ∙ digits_next (a - 48) b (c ∷ ds) u hb ∙ ap (λ (x : List ℕ). x ++ (b ∷ c ∷ ds)) (digits_first a ha) ∙ sym e)
+            let more : 1 ≤ a - 48 = omega (arith, z) in
+            let m : 10 ≤ (a - 48) * 10 + (b - 48) = omega arith in
+            let C = continued (((a - 48) * 10 + (b - 48)) * 10 + (c - 48)) es (omega arith) hs in
+            number_at C.number 100
+            (C.spelt ∙ digits_next ((a - 48) * 10 + (b - 48)) c es (omega arith) hc ∙ digits_next (a - 48) b (c ∷ es) more hb ∙ ap (λ (x : List ℕ). x ++ (b ∷ c ∷ es)) (digits_first a ha) ∙ sym e)
             (clip_large C.number (omega arith))

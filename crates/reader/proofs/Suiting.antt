@@ -78,7 +78,8 @@ named_failed n S a b K B opening emits tests = refl
 named_failed n S a b K B closing emits tests = refl
 
 -- A chain was met.
-pub met_failed : (n : ℕ) (b : Bool) (K : Frames) (B : Kept) (t : Part) → (t ≡ word In → ⊥) → (t ≡ word Then → ⊥) → (t ≡ word Else → ⊥) → (t ≡ word Loop → ⊥) → (t ≡ word Try → ⊥) → (t ≡ semicolon → ⊥) → (t ≡ bars → ⊥) → (t ≡ opening → ⊥)
+pub met_failed : (n : ℕ) (b : Bool) (K : Frames) (B : Kept) (t : Part) → (t ≡ word In → ⊥) → (t ≡ word Then → ⊥) → (t ≡ word Else → ⊥)
+    → (t ≡ word Loop → ⊥) → (t ≡ word Try → ⊥) → (t ≡ semicolon → ⊥) → (t ≡ bars → ⊥) → (t ≡ opening → ⊥)
     → work_met n b K B t ≡ failed
 unfolding work_met
 met_failed n b K B (word Nothing) ins thens elses loops tries joins bared opens = refl

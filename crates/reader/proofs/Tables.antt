@@ -11,9 +11,10 @@ use lib.Seq.{take_all}
 use borrow.Author.Tests.{lt-ltb, le-ltb}
 use Rattle.esterel.specs.Statement.{Statement, size}
 use Rattle.esterel.proofs.Sizes.{size_positive}
-use Rattle.table.specs.declared.Checked.{Checked}
-use Rattle.table.specs.declared.Checked.TheVariants as checked
-use Rattle.table.specs.Outcomes.{values, number_of, fitted, buffer_after}
+use Rattle.std.specs.Prelude.{Result, Ok, Err}
+use Rattle.table.specs.declared.Refusal.{Refusal}
+use Rattle.table.specs.declared.Refusal.TheVariants.{Count, Room, Grammar, Number}
+use Rattle.table.specs.Outcomes.{values, number_of_refusal, fitted, buffer_after}
 use Rattle.table.specs.Reading.{length_of, read_from, deepest, Table, holds, whole_of, table_after, table_of, checked_outcome, check_in, check_of}
 use Rattle.table.specs.Writing.{nodes, write_nodes, write}
 use Rattle.table.specs.inner.Loading.{loaded_of}
@@ -23,16 +24,13 @@ use Rattle.table.proofs.Fields.{headed_accepted, headed_written, nodes_written}
 use Rattle.table.proofs.ReadBack.{Ranged}
 use Rattle.table.proofs.RoundTrip.{below_nodes, length_write, never_another}
 use Rattle.table.proofs.Loading.{load_refuses, load_holds}
-use Rattle.text.specs.declared.Answer.{Answer}
-use Rattle.text.specs.declared.Answer.TheVariants.{Refused, Written}
 use Rattle.text.specs.Answers.{answer_outcome, answer_for, buffer_for, read_of, read_buffer}
 use Rattle.text.specs.Reading.{ranged, table_for, table_in}
 use Rattle.text.specs.inner.Lexer.{read_text}
 use Rattle.text.proofs.Reading.{ranged⁻}
 use Rattle.reader.specs.inner.Nodes.{Verdict, broken, outside, over, whole, verdict_of, verdict_from}
-use Rattle.reader.specs.declared.parsing.Parsed.{Parsed}
-use Rattle.reader.specs.declared.parsing.Parsed.TheVariants.{Broken, Outside, Many, Whole}
-use Rattle.reader.specs.inner.Held.{verdict_is, Filled, AtEnd, Answered}
+use Rattle.reader.specs.inner.Held.{Found}
+use Rattle.reader.specs.inner.Tables.{AtEnd, Answered}
 use Rattle.reader.proofs.Verdicts.{made_verdict}
 
 -- ---- Nodes and the table that is written of them
@@ -46,9 +44,9 @@ written_table p r few =
     let H = headed_accepted (write_nodes (nodes p)) (length (nodes p)) (headed_written (nodes p) few' fields (rw (length_nodes p) (size_positive p)) (rw (length_nodes p) few)) in
     rw (H, nodes_written (nodes p) few' fields, length_nodes p)
 
-refused_answer : {t : Table} {w : ℕ} (out : List ℕ) → t ≡ Table.refused w → Answered t out (Refused w) out
-unfolding answer_outcome answer_for buffer_for
-refused_answer out e = rw e (record { outcome = refl; buffer = refl })
+refused_answer : {t : Table} (w : Refusal) (out : List ℕ) → t ≡ Table.refused (number_of_refusal w) → Answered t out (Err w) out
+unfolding answer_for buffer_for
+refused_answer w out e = rw e (record { outcome = refl; buffer = refl })
 
 module _ {count : ℕ} {xs : List ℕ} (e : AtEnd count xs) where
   abbrev p : Statement
@@ -64,7 +62,7 @@ module _ {count : ℕ} {xs : List ℕ} (e : AtEnd count xs) where
   pub handed : {n : ℕ} → n ≡ length xs - (1024 - count) → take n (drop (1024 - count) xs) ≡ nodes p
   handed {n} h = take_all n (drop (1024 - count) xs) (omega (arith, length-drop (1024 - count) xs)) ∙ e.stand
 
-  module _ (a : Checked) (h : checked_outcome a ≡ check_in (whole_of (1024 - (1024 - count)) (read_from deepest 0 0 (drop (1024 - count) (take 1024 xs))))) where
+  module _ (a : Result ℕ Refusal) (h : checked_outcome a ≡ check_in (whole_of (1024 - (1024 - count)) (read_from deepest 0 0 (drop (1024 - count) (take 1024 xs))))) where
     -- what is answered on the nodes is what the table answers
     checked_as : checked_outcome a ≡ check_of (write p)
     unfolding check_of
@@ -76,10 +74,10 @@ module _ {count : ℕ} {xs : List ℕ} (e : AtEnd count xs) where
         ∙ ap₂ (λ (n : ℕ) (ys : List ℕ). check_in (whole_of n (read_from deepest 0 0 ys))) same (ap (drop (1024 - count)) (take_all 1024 xs (omega arith)) ∙ e.stand)
         ∙ sym (ap check_in (written_table p (ranged⁻ p e.inside) (omega (arith, counted))))
 
-    pub nodes_refused : (w x : ℕ) (out : List ℕ) → a ≡ checked.Refused w → x ≡ number_of (checked_outcome a) → Answered (table_of (write p)) out (Refused x) out
-    nodes_refused w x out f g = refused_answer out (load_refuses (write p) [] (loaded_of (write p) []) a (checked_as, refl) w x f g)
+    pub nodes_refused : (w : Refusal) (out : List ℕ) {x : Result ℕ Refusal} → a ≡ Err w → x ≡ Err w → Answered (table_of (write p)) out x out
+    nodes_refused w out f g = rw g (refused_answer w out (load_refuses (write p) [] (loaded_of (write p) []) a (checked_as, refl) w f))
 
-    module _ {n : ℕ} (f : a ≡ checked.Accepted n) (out : List ℕ) where
+    module _ {n : ℕ} (f : a ≡ Ok n) (out : List ℕ) where
       holds_it : table_of (write p) ≡ holds n p
       holds_it =
           let (q, g) = load_holds (write p) [] (loaded_of (write p) []) a (checked_as, refl) n f in
@@ -87,16 +85,16 @@ module _ {count : ℕ} {xs : List ℕ} (e : AtEnd count xs) where
           g ∙ ap (holds n) (never_another p (ranged⁻ p e.inside) (omega (arith, counted)) n q g).0
 
       -- it has no room
-      pub nodes_short : {k : ℕ} → k ≡ length_of count → length out < k → Answered (table_of (write p)) out (Refused 13) out
-      unfolding answer_outcome answer_for buffer_for fitted buffer_after
+      pub nodes_short : {k : ℕ} → k ≡ length_of count → length out < k → Answered (table_of (write p)) out (Err Room) out
+      unfolding answer_for buffer_for fitted buffer_after
       nodes_short {k} g s =
           let less : ltb (length out) (length (write p)) ≡ true = lt-ltb (length out) (length (write p)) (omega (arith, long)) in
           rw holds_it (record { outcome = rw less; buffer = rw less })
 
       -- it is written
       pub nodes_written_out : {k r : ℕ} {ys out' : List ℕ} → k ≡ length_of count → k ≤ length out → ys ≡ nodes p → r ≡ length (write_nodes ys) → out' ≡ write_nodes ys ++ drop r out
-          → Answered (table_of (write p)) out (Written r) out'
-      unfolding answer_outcome answer_for buffer_for fitted buffer_after write
+          → Answered (table_of (write p)) out (Ok r) out'
+      unfolding answer_for buffer_for fitted buffer_after write
       nodes_written_out {k} {r} g s same i o =
           let enough : ltb (length out) (length (write p)) ≡ false = le-ltb (length out) (length (write p)) (omega (arith, long)) in
           let r-is : r ≡ length (write p) = i ∙ ap (λ (l : List ℕ). length (write_nodes l)) same in
@@ -136,39 +134,39 @@ verdict_table text = subst (λ (v : Verdict). TableFrom v (table_in text)) (sym 
 -- ---- What reading answers
 
 -- what is said of the answer and of the buffer
-abbrev pub ReadAs : List ℕ → List ℕ → Answer → List ℕ → Type 0
+abbrev pub ReadAs : List ℕ → List ℕ → Result ℕ Refusal → List ℕ → Type 0
 ReadAs text out a out' = (answer_outcome a ≡ read_of text (length out)) × (out' ≡ read_buffer text out)
 
-read_as : (text : List ℕ) {out out' : List ℕ} {a : Answer} → Answered (table_in text) out a out' → ReadAs text out a out'
+read_as : (text : List ℕ) {out out' : List ℕ} {a : Result ℕ Refusal} → Answered (table_in text) out a out' → ReadAs text out a out'
 unfolding read_of read_buffer
 read_as text k = (k.outcome, k.buffer)
 
-module _ (text xs : List ℕ) (r : Parsed) (h : (verdict_is r xs ≡ verdict_of text) × Filled r xs) where
-  told : (s : Parsed) → r ≡ s → TableFrom (verdict_is s xs) (table_in text)
-  told s e = subst (λ (v : Verdict). TableFrom v (table_in text)) (sym h.0 ∙ ap (λ (z : Parsed). verdict_is z xs) e) (verdict_table text)
+-- a text is refused as its verdict says
+pub read_refused : (text xs : List ℕ) (r : Result ℕ Refusal) → Found (verdict_of text) r xs → (w : Refusal) → r ≡ Err w → (out : List ℕ) {x : Result ℕ Refusal} → x ≡ Err w → ReadAs text out x out
+read_refused text xs r F w e out g = rw g (read_as text (go (verdict_of text) (verdict_table text) F))
+  where
+    go : (v : Verdict) → TableFrom v (table_in text) → Found v r xs → Answered (table_in text) out (Err w) out
+    go broken t f = let same : w ≡ Grammar = cc in rw same (refused_answer Grammar out t)
+    go outside t f = let same : w ≡ Number = cc in rw same (refused_answer Number out t)
+    go over t f = let same : w ≡ Count = cc in rw same (refused_answer Count out t)
+    go (whole ys) t f = let is = f.is in let z : ◌≡◌ {A = ℕ} 0 1 = cc in absurd (omega arith)
 
-  pub read_broken : r ≡ Broken → (out : List ℕ) → ReadAs text out (Refused 18) out
-  unfolding verdict_is
-  read_broken e out = read_as text (refused_answer out (told Broken e))
+-- or its nodes are those of a statement
+module _ (text xs : List ℕ) (r : Result ℕ Refusal) (F : Found (verdict_of text) r xs) {count : ℕ} (e : r ≡ Ok count) where
+  found : (k : AtEnd count xs) × (table_in text ≡ table_of (write k.statement))
+  found = go (verdict_of text) (verdict_table text) F
+    where
+      go : (v : Verdict) → TableFrom v (table_in text) → Found v r xs → (k : AtEnd count xs) × (table_in text ≡ table_of (write k.statement))
+      go broken t f = let z : ◌≡◌ {A = ℕ} 0 1 = cc in absurd (omega arith)
+      go outside t f = let z : ◌≡◌ {A = ℕ} 0 1 = cc in absurd (omega arith)
+      go over t f = let z : ◌≡◌ {A = ℕ} 0 1 = cc in absurd (omega arith)
+      go (whole ys) (p, inside, stand, is) f =
+          let told = f.is in
+          let same : f.count ≡ count = cc in
+          (record { statement = p; inside = inside; counted = let c = f.counted in omega arith; filled = f.filled; stand = ap (λ (n : ℕ). drop (1024 - n) xs) (sym same) ∙ f.stand ∙ stand }, is)
 
-  pub read_outside : r ≡ Outside → (out : List ℕ) → ReadAs text out (Refused 19) out
-  unfolding verdict_is
-  read_outside e out = read_as text (refused_answer out (told Outside e))
+  pub at_end : AtEnd count xs
+  at_end = found.0
 
-  pub read_many : r ≡ Many → (out : List ℕ) → ReadAs text out (Refused 3) out
-  unfolding verdict_is
-  read_many e out = read_as text (refused_answer out (told Many e))
-
-  module _ {count : ℕ} (e : r ≡ Whole count) where
-    found : (k : AtEnd count xs) × (table_in text ≡ table_of (write k.statement))
-    unfolding verdict_is
-    found =
-        let (p, inside, stand, is) = told (Whole count) e in
-        let f = subst (λ (z : Parsed). Filled z xs) e h.1 in
-        (record { statement = p; inside = inside; counted = f.0; filled = f.1; stand = stand }, is)
-
-    pub at_end : AtEnd count xs
-    at_end = found.0
-
-    pub read_whole : (out out' : List ℕ) (a : Answer) → ((k : AtEnd count xs) → Answered (table_of (write k.statement)) out a out') → ReadAs text out a out'
-    read_whole out out' a f = read_as text (subst (λ (t : Table). Answered t out a out') (sym found.1) (f found.0))
+  pub read_whole : (out out' : List ℕ) (a : Result ℕ Refusal) → ((k : AtEnd count xs) → Answered (table_of (write k.statement)) out a out') → ReadAs text out a out'
+  read_whole out out' a f = read_as text (subst (λ (t : Table). Answered t out a out') (sym found.1) (f found.0))

@@ -1,23 +1,26 @@
 -- Taking parts from the end of a text: what was taken brings the machine on, and where no part that ends the text suits it, no text that ends so is one of a statement.
-use Prim.Native.Nat.{ℕ, ◌≤◌, ◌<◌}
+use Prim.Native.Nat.{ℕ}
 use mathlib.Core.Path.{◌≡◌, refl, sym, ap, ◌∙◌}
 use mathlib.Core.Logic.{◌⊎◌, inl, inr}
-use mathlib.Core.Bool.{Bool, true, false, ◌&&◌, and_assoc, true≢false}
+use mathlib.Core.Bool.{Bool, true, false, ◌&&◌, and_assoc, and-true}
 use mathlib.Core.Option.{Option, none, some}
 use mathlib.Core.List.{List, [], ◌∷◌, ◌++◌, append_assoc}
 use native.Mathlib.Omega.{arith}
-use lib.ListN.{take}
 use Rattle.sets.proofs.Booleans.{clash}
-use Rattle.reader.specs.declared.moves.Taken.{Taken}
-use Rattle.reader.specs.declared.moves.Taken.TheVariants as taken
+use denote.Ref.{Bor}
+use Rattle.std.specs.Prelude.{Some, None}
+use Rattle.std.specs.Prelude as std
+use Rattle.reader.specs.declared.moves.Reader.{Reader}
+use Rattle.reader.specs.declared.moves.Room.{Room}
 use Rattle.text.specs.Parts.{Part}
 use Rattle.text.specs.Spelling.{last_of}
 use Rattle.text.specs.inner.Lexer.{lex, finished, all_of, flushed, rest}
 use Rattle.reader.specs.inner.Ending.{Ending, blank_byte}
 use Rattle.reader.specs.inner.Nodes.{part_ranged, all_ranged, Work, failed, work, work_all, made, begun, broken, verdict_for, verdict_in}
-use Rattle.reader.specs.inner.Held.{due_state, met_state, state_after, Moved, Clean, Doomed, Advanced, Took}
+use Rattle.reader.specs.inner.Held.{state, Ready, Moved, Clean, Doomed, Advanced, Took}
 use Rattle.reader.proofs.Working.{work_failed, work_append}
 use Rattle.reader.proofs.Fronts.{rest_in_front}
+use Rattle.reader.proofs.Places.{Front, front_ending}
 use Rattle.reader.proofs.Endings.{Ends, ending_rest, rest_ends}
 
 -- ---- Parts one after the other
@@ -46,66 +49,68 @@ unfolding verdict_in verdict_for rest lex finished flushed all_of
 nothing_left ts e = ap (verdict_for (all_ranged ts)) e
 
 -- no part that ends the text suits the machine
-pub doomed : (bs : List ℕ) (end : ℕ) (x : Work) → (take end bs ≡ [] → made x ≡ none) → ((v : List ℕ) (t : Part) → Ending (take end bs) v t → work t x ≡ failed) → Doomed bs end x
+pub doomed : (u : List ℕ) (x : Work) → (u ≡ [] → made x ≡ none) → ((v : List ℕ) (t : Part) → Ending u v t → work t x ≡ failed) → Doomed u x
 unfolding Doomed Clean verdict_in work_all
-doomed bs end x empty none-suits ts clean e = go (rest (take end bs) ts) refl
+doomed u x empty none-suits ts clean e = go (rest u ts) refl
   where
-    go : (r : Option (List Part)) → rest (take end bs) ts ≡ r → verdict_in (rest (take end bs) ts) ≡ broken
+    go : (r : Option (List Part)) → rest u ts ≡ r → verdict_in (rest u ts) ≡ broken
     go none h = ap verdict_in h
-    go (some vs) h = ends (rest_ends (take end bs) ts vs h clean)
+    go (some vs) h = ends (rest_ends u ts vs h clean)
       where
-        ends : (take end bs ≡ []) ⊎ Ends (take end bs) → verdict_in (rest (take end bs) ts) ≡ broken
-        ends (inl none_left) = ap (λ (u : List ℕ). verdict_in (rest u ts)) none_left ∙ nothing_left ts (ap made e ∙ empty none_left)
+        ends : (u ≡ []) ⊎ Ends u → verdict_in (rest u ts) ≡ broken
+        ends (inl none_left) = ap (λ (v : List ℕ). verdict_in (rest v ts)) none_left ∙ nothing_left ts (ap made e ∙ empty none_left)
         ends (inr E) =
-            ap verdict_in (ending_rest (take end bs) E.before E.part ts E.ending)
+            ap verdict_in (ending_rest u E.before E.part ts E.ending)
             ∙ failed_verdict E.before (E.part ∷ ts) (ap (work E.part) e ∙ none-suits E.before E.part E.ending)
 
--- parts were taken from `end` to `at`, and no text that ends there is one of a statement
-pub doomed_behind : (bs : List ℕ) (end at : ℕ) (t : Part) (x : Work) → ((ts : List Part) → rest (take end bs) ts ≡ rest (take at bs) (t ∷ ts)) → blank_byte (last_of (take at bs)) ≡ false
-    → Doomed bs at (work t x) → Doomed bs end x
+-- u is v and a part, and no text that ends in v is one of a statement
+pub doomed_behind : (u v : List ℕ) (t : Part) (x : Work) → ((ts : List Part) → rest u ts ≡ rest v (t ∷ ts)) → blank_byte (last_of v) ≡ false → Doomed v (work t x) → Doomed u x
 unfolding Doomed Clean work_all
-doomed_behind bs end at t x goes_on solid d ts clean e = ap verdict_in (goes_on ts) ∙ d (t ∷ ts) (λ b. absurd (clash b solid)) (ap (work t) e)
+doomed_behind u v t x goes_on solid d ts clean e = ap verdict_in (goes_on ts) ∙ d (t ∷ ts) (λ b. absurd (clash b solid)) (ap (work t) e)
+
+-- u is v and parts that the machine fails at
+pub doomed_parts : (u v : List ℕ) (x : Work) (part : Part) (parts : List Part) → ((ts : List Part) → rest u ts ≡ rest v (part ∷ (parts ++ ts))) → work_all (part ∷ parts) x ≡ failed → Doomed u x
+unfolding Doomed
+doomed_parts u v x part parts goes_on f = λ ts clean e.
+    ap verdict_in (goes_on ts) ∙ failed_verdict v (part ∷ (parts ++ ts)) (work_append (part ∷ parts) ts begun ∙ ap (work_all (part ∷ parts)) e ∙ f)
 
 -- ---- What was taken
 
--- a move on what the parts from `at` to `end` make of the machine
-pub took : (bs : List ℕ) (end : ℕ) {at : ℕ} (x : Work) (part : Part) (parts : List Part) (ranged ranged' : Bool) (t : Taken) (fs xs : List ℕ)
-    → ((ts : List Part) → rest (take end bs) ts ≡ rest (take at bs) (part ∷ (parts ++ ts))) → ranged' ≡ (all_ranged (part ∷ parts) && ranged) → at < end
-    → Moved t at fs xs (work_all (part ∷ parts) x) → Took bs end x ranged t ranged' fs xs
-unfolding state_after Doomed
-took bs end {at} x part parts ranged ranged' taken.Broken fs xs goes_on within shorter m = λ ts clean e.
-    ap verdict_in (goes_on ts)
-    ∙ failed_verdict (take at bs) (part ∷ (parts ++ ts)) (work_append (part ∷ parts) ts begun ∙ ap (work_all (part ∷ parts)) e ∙ sym m.state)
-took bs end x part parts ranged ranged' (taken.Due place r) fs xs goes_on within shorter m =
-    let e : place ≡ _ = m.stands.0 in
-    rw e (record { part = part; parts = parts; goes_on = goes_on; worked = m.state; within = within; shorter = shorter }, m.stands.1)
-took bs end x part parts ranged ranged' (taken.Met place r) fs xs goes_on within shorter m =
-    let e : place ≡ _ = m.stands.0 in
-    rw e (record { part = part; parts = parts; goes_on = goes_on; worked = m.state; within = within; shorter = shorter }, m.stands.1)
+abbrev pub Goes : List ℕ → List ℕ → Work → Bool → Reader → Room → Type 0
+Goes u v x ranged s m = Advanced u v x (state s m) ranged s.ranged × Ready s m
 
--- a part was taken from `end` to `start`, and what stands before it suits what it made of the machine
-advanced_behind : (bs : List ℕ) (end start at : ℕ) (t : Part) (x y : Work) (ranged ranged' : Bool) → ((ts : List Part) → rest (take end bs) ts ≡ rest (take start bs) (t ∷ ts)) → start ≤ end
-    → ranged' ≡ (part_ranged t && ranged) → Advanced bs start at (work t x) y true true → Advanced bs end at x y ranged ranged'
-unfolding work_all all_ranged
-advanced_behind bs end start at t x y ranged ranged' goes_on below within A =
-    record {
-      part = A.part;
-      parts = A.parts ++ (t ∷ []);
-      goes_on = λ ts. goes_on ts ∙ A.goes_on (t ∷ ts) ∙ ap (λ (us : List Part). rest (take at bs) (A.part ∷ us)) (sym (append_assoc A.parts (t ∷ []) ts));
-      worked = A.worked ∙ sym (work_append (A.part ∷ A.parts) (t ∷ []) x);
-      within = within ∙ ap (λ (z : Bool). z && ranged) (all_true (all_ranged (A.part ∷ A.parts)) (part_ranged t) A.within ∙ sym (range_append (A.part ∷ A.parts) (t ∷ [])));
-      shorter = let s = A.shorter in omega arith;
-    }
-  where
-    all_true : (a b : Bool) → true ≡ (a && true) → b ≡ (a && (b && true))
-    all_true true true e = refl
-    all_true true false e = refl
-    all_true false b e = absurd (true≢false e)
+-- a move on what the parts behind v make of the machine
+pub took : (u v : List ℕ) (x : Work) (part : Part) (parts : List Part) {ranged : Bool} {r s : Reader} {m : Room} → ((ts : List Part) → rest u ts ≡ rest v (part ∷ (parts ++ ts)))
+    → r.ranged ≡ (all_ranged (part ∷ parts) && ranged) → Front u v → Moved r s m (work_all (part ∷ parts) x) → Goes u v x ranged s m
+took u v x part parts goes_on within F M =
+    (record { part = part; parts = parts; goes_on = goes_on; worked = M.state; within = M.ranged ∙ within; shorter = F.shorter; first = F.first }, M.ready)
 
-pub took_behind : (bs : List ℕ) (end start : ℕ) (t : Part) (x : Work) (ranged ranged' : Bool) (r : Taken) (fs xs : List ℕ) → ((ts : List Part) → rest (take end bs) ts ≡ rest (take start bs) (t ∷ ts)) → start ≤ end
-    → blank_byte (last_of (take start bs)) ≡ false → ranged' ≡ (part_ranged t && ranged) → Took bs start (work t x) true r true fs xs → Took bs end x ranged r ranged' fs xs
-took_behind bs end start t x ranged ranged' taken.Broken fs xs goes_on below solid within d = doomed_behind bs end start t x goes_on solid d
-took_behind bs end start t x ranged ranged' (taken.Due at r) fs xs goes_on below solid within a =
-    (advanced_behind bs end start at t x (due_state r fs xs) ranged ranged' goes_on below within a.0, a.1)
-took_behind bs end start t x ranged ranged' (taken.Met at r) fs xs goes_on below solid within a =
-    (advanced_behind bs end start at t x (met_state r fs xs) ranged ranged' goes_on below within a.0, a.1)
+module _ (u v : List ℕ) (t : Part) (E : Ending u v t) (x : Work) where
+  pub took_part : part_ranged t ≡ true → {r s : Reader} {m : Room} → Moved r s m (work t x) → Goes u v x r.ranged s m
+  unfolding work_all all_ranged
+  took_part within {r} M = took u v x t [] (λ ts. ending_rest _ _ t ts E) (sym (ap (λ (z : Bool). (z && true) && r.ranged) within)) (front_ending u v t E) M
+
+  pub doomed_part : work t x ≡ failed → Doomed u x
+  unfolding work_all
+  doomed_part f = doomed_parts u v x t [] (λ ts. ending_rest _ _ t ts E) f
+
+-- a part was taken from u to v, and what stands before it suits what it made of the machine
+module _ (u v : List ℕ) (t : Part) (x : Work) (ranged mid : Bool) (goes_on : (ts : List Part) → rest u ts ≡ rest v (t ∷ ts)) (F : Front u v) (within : mid ≡ (part_ranged t && ranged)) where
+  advanced_behind : (w : List ℕ) (y : Work) (ranged' : Bool) → Advanced v w (work t x) y mid ranged' → Advanced u w x y ranged ranged'
+  unfolding work_all all_ranged
+  advanced_behind w y ranged' A =
+      let all = all_ranged (A.part ∷ A.parts) in
+      record {
+        part = A.part;
+        parts = A.parts ++ (t ∷ []);
+        goes_on = λ ts. goes_on ts ∙ A.goes_on (t ∷ ts) ∙ ap (λ (us : List Part). rest w (A.part ∷ us)) (sym (append_assoc A.parts (t ∷ []) ts));
+        worked = A.worked ∙ sym (work_append (A.part ∷ A.parts) (t ∷ []) x);
+        within = A.within ∙ ap (λ (z : Bool). all && z) within ∙ sym (and_assoc all (part_ranged t) ranged)
+            ∙ ap (λ (z : Bool). z && ranged) (ap (λ (z : Bool). all && z) (sym (and-true (part_ranged t))) ∙ sym (range_append (A.part ∷ A.parts) (t ∷ [])));
+        shorter = omega (arith, A.shorter, F.shorter);
+        first = λ h. A.first (F.first h);
+      }
+
+  pub took_behind : blank_byte (last_of v) ≡ false → (o : std.Option (Bor (List ℕ) × Reader)) (m : Room) → Took v (work t x) mid o m → Took u x ranged o m
+  took_behind solid None m d = doomed_behind u v t x goes_on solid d
+  took_behind solid (Some p) m a = (advanced_behind p.0.now (state p.1 m) p.1.ranged a.0, a.1)

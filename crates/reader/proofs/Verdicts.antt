@@ -12,7 +12,6 @@ use borrow.Author.Tests.{le-ltb, lt-ltb}
 use Rattle.esterel.specs.Statement.{Statement, size}
 use Rattle.table.specs.Kinds.{kinds, kind_of, row_of}
 use Rattle.table.specs.Writing.{node, nodes}
-use Rattle.table.specs.inner.Making
 use Rattle.table.specs.inner.Making.{node_of}
 use Rattle.table.proofs.Nodes.{length_nodes}
 use Rattle.table.proofs.ReadBack.{Ranged}
@@ -69,7 +68,7 @@ parts_ranged (parallel us vs t u e) = rw e (between us vs bars refl ∙ both (pa
 -- ---- Operands in range are held as they are
 
 row_node : (k o : ℕ) → o ≤ 100 → (row_of (kind_of k)).least ≤ o → o ≤ (row_of (kind_of k)).most → node_of k (clip o) ≡ node k o
-unfolding node_of Making.in_range
+unfolding node_of
 row_node k o h l m =
     ap (node_of k) (clip_small o h)
     ∙ ap (λ (z : Bool). node k (cond z (row_of (kind_of k)).least (cond (ltb (row_of (kind_of k)).most o) (row_of (kind_of k)).most o))) (le-ltb o (row_of (kind_of k)).least l)
@@ -82,7 +81,7 @@ signal_node : (k S : ℕ) → (row_of (kind_of k)).least ≡ 0 → (row_of (kind
 signal_node k S a b h = row_node k S (omega arith) (rw a (omega arith)) (rw b h)
 
 held_nodes : (p : Statement) → Ranged p → held p ≡ nodes p
-unfolding held nodes Ranged node_of Making.in_range row_of kind_of kinds
+unfolding held nodes Ranged node_of row_of kind_of kinds
 held_nodes Statement.nothing r = refl
 held_nodes (Statement.pause l) r = ap (λ (x : ℕ). x ∷ []) (label_node 1 l refl refl r)
 held_nodes (Statement.gotopause l) r = ap (λ (x : ℕ). x ∷ []) (label_node 2 l refl refl r)

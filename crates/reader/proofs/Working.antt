@@ -17,7 +17,8 @@ use Rattle.text.specs.Parts.{Nothing, Gotopause, Emit, Exit, Signal, In, End, Pr
 use Rattle.text.specs.Grammar.{deepest_open}
 use Rattle.text.specs.inner.Machine.{joined, beside, Stack, Head, after_in, after_then, State, meet, push, opened, ended, in_before, then_before, else_before, bare, signal_before, present_before}
 use Rattle.text.specs.inner.Machine.{step_due, step_numbered, step_named, step_met, step_heading, step_headed, step, run, closed, outcome, read_within, read_parts}
-use Rattle.reader.specs.inner.Nodes.{clip, clip_part, Kept, few, many, kept, kept_count, put_on, insert_behind, insert_on, Frames, Opener, of_signal, of_present, Work, chained, aside, single, push_frame, open_frame, end_frame, in_frame, then_frame, else_frame, bare_frame, signal_frame, present_frame}
+use Rattle.reader.specs.inner.Nodes.{clip, clip_part, Kept, few, many, kept, kept_count, put_on, insert_behind, insert_on}
+use Rattle.reader.specs.inner.Nodes.{Frames, Opener, of_signal, of_present, Work, chained, aside, single, push_frame, open_frame, end_frame, in_frame, then_frame, else_frame, bare_frame, signal_frame, present_frame}
 use Rattle.reader.specs.inner.Nodes.{work_due, work_numbered, work_named, work_met, work_heading, work_headed, work, work_all, whole_nodes, made, begun}
 use Rattle.text.specs.Reading.{label_ranged, signal_ranged}
 

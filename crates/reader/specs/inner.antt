@@ -1,4 +1,6 @@
 -- What inner functions ask of and leave to each other.
 pub mod Nodes
+pub mod Kept
 pub mod Ending
 pub mod Held
+pub mod Tables

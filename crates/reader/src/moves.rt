@@ -1,278 +1,207 @@
 // The moves of the reader: what a part does to where it stands, to what is open and to the nodes. The text is not looked at here.
-ghost use Rattle.std.specs.Prelude.{◌≡◌, true, false, List, [], ◌∷◌, ℕ, suc, ◌≤◌, ◌<◌, length};
+ghost use Rattle.std.specs.Prelude.{◌≡◌, true, false, [], ◌∷◌, suc, ◌≤◌, ◌<◌};
 ghost use Rattle.table.specs.inner.Making.{node_of};
 ghost use Rattle.text.specs.Parts.{word, Present, signal_of};
-ghost use Rattle.reader.specs.inner.Nodes.{put_on, due, aside, single, open_frame, end_frame, then_frame, else_frame, bare_frame, work_all};
-ghost use Rattle.reader.specs.inner.Held.{kept_in, Stored, stack_at, stack_of, nodes_held, single_at, opened_at, whole_reader, Ready, Moved};
+ghost use Rattle.reader.specs.inner.Nodes.{kept_count, put_on, due, aside, single, push_frame, open_frame, end_frame, then_frame, else_frame, bare_frame, work_all};
+ghost use Rattle.reader.specs.inner.Kept.{kept_in, Counted, Stored};
+ghost use Rattle.reader.specs.inner.Held.{framed_as, stack_at, stack_of, nodes_of, single_at, whole_reader, Ready, Topmost, Moved, Moves};
 
-use crate::frames::{Frame, Opened, put_frame, top_frame};
+use crate::frames::{Frame, Opened};
 use crate::nodes::{insert_nothing, put, put_if};
 use table::{DEEPEST, MOST_NODES};
 
-// Where the reader stands: whether a `;` and whether a `||` stands behind, how many brackets and `end`s may still be opened, how many
-// nodes there are.
+// Room for what is open, the innermost first, and for the nodes.
+#[derive(Drop)]
+pub struct Room {
+    pub frames: [Frame; DEEPEST],
+    pub nodes: [u16; MOST_NODES],
+}
+
+// Where the reader stands: whether a statement is due or a chain was met, whether all numbers are in range, whether a `;` and whether
+// a `||` stands behind, how many brackets and `end`s may still be opened, how many nodes there are.
 #[derive(Clone, Copy)]
 pub struct Reader {
+    pub is_due: bool,
+    pub ranged: bool,
     pub after: bool,
     pub beside: bool,
     pub left: usize,
-    pub count: usize,
+    pub count: Option<usize>,
 }
 
-// What was taken: nothing where the text is broken; else the place before it, and whether a statement is due there or a chain was met.
-#[derive(Clone, Copy)]
-pub enum Taken {
-    Broken,
-    Due(usize, Reader),
-    Met(usize, Reader),
-}
-
-// A statement is due, with so many nodes behind it.
-fn due(at: usize, after: bool, beside: bool, left: usize, count: usize) -> Taken
-    ensures { result ≡ Taken.Due at (record { after = after; beside = beside; left = left; count = count }) }
-{
-    Taken::Due(
-        at,
+impl Reader {
+    // A statement is due.
+    fn due(self, after: bool, beside: bool) -> Self
+        ensures { result ≡ record self { is_due = true; after = after; beside = beside } }
+    {
         Reader {
+            is_due: true,
             after,
             beside,
-            left,
-            count,
-        },
-    )
-}
+            ..self
+        }
+    }
 
-// A single statement was met: the node of the `;` behind it goes before it.
-fn met(
-    at: usize,
-    after: bool,
-    beside: bool,
-    left: usize,
-    count: usize,
-    nodes: &mut [u16; MOST_NODES],
-) -> Taken
-    requires { (left ≤ 60) × (count ≤ 1025) × (length nodes.old ≡ 1024) }
-    ensures { (fs : List ℕ) → length fs ≡ 60 → Moved result at fs nodes.new (single left after beside (stack_at left fs) (kept_in count nodes.old)) }
-{
-    let all = put_if(nodes, count, after, table::SEQUENCE);
-    Taken::Met(
-        at,
+    // A single statement was met: the node of the `;` behind it goes before it.
+    fn met(self, room: &mut Room, after: bool, beside: bool) -> Self
+        requires { Ready self room.old }
+        ensures { Moved self result room.new (single self.left after beside (stack_of self room.old) (nodes_of self room.old)) }
+    {
         Reader {
+            is_due: false,
             after: false,
             beside,
-            left,
-            count: all,
-        },
-    )
-}
-
-// A statement of one node.
-pub fn leaf(
-    reader: Reader,
-    at: usize,
-    kind: u16,
-    operand: u8,
-    nodes: &mut [u16; MOST_NODES],
-) -> Taken
-    requires { (kind < 16) × (reader.left ≤ 60) × (length nodes.old ≡ 1024) }
-    ensures { (fs : List ℕ) → length fs ≡ 60 → Moved result at fs nodes.new (single_at reader fs (put_on (node_of kind operand) (nodes_held reader nodes.old))) }
-{
-    let count = put(nodes, reader.count, kind, operand);
-    met(at, reader.after, reader.beside, reader.left, count, nodes)
-}
-
-// What was open is whole: a single statement, with so many nodes.
-fn closed(
-    left: usize,
-    at: usize,
-    frame: Frame,
-    count: usize,
-    nodes: &mut [u16; MOST_NODES],
-) -> Taken
-    requires { (left < 60) × (count ≤ 1025) × (length nodes.old ≡ 1024) }
-    ensures { (fs : List ℕ) → length fs ≡ 60 → Moved result at fs nodes.new (single (suc left) frame.after frame.beside (stack_at (suc left) fs) (kept_in count nodes.old)) }
-{
-    met(at, frame.after, frame.beside, left + 1, count, nodes)
-}
-
-// A `]` or an `end`: one more is open.
-pub fn open(reader: Reader, at: usize, opened: Opened, frames: &mut [u16; DEEPEST]) -> Taken
-    requires { (reader.left ≤ 60) × (reader.count ≤ 1025) × (length frames.old ≡ 60) }
-    ensures { (xs : List ℕ) → length xs ≡ 1024 → Moved result at frames.new xs (opened_at reader opened (stack_of reader frames.old) (nodes_held reader xs)) }
-{
-    if reader.left == 0 {
-        return Taken::Broken;
-    }
-    let left = reader.left - 1;
-    let frame = Frame {
-        opened,
-        after: reader.after,
-        beside: reader.beside,
-        behind: reader.count,
-    };
-    put_frame(frames, left, frame);
-    due(at, false, false, left, reader.count)
-}
-
-// `present S` right before `end` or `else`: the branches that are not there are nothing.
-pub fn bare(
-    reader: Reader,
-    at: usize,
-    signal: u8,
-    frames: &[u16; DEEPEST],
-    nodes: &mut [u16; MOST_NODES],
-) -> Taken
-    requires { Ready reader frames.now nodes.old }
-    ensures { Moved result at frames.now nodes.new (bare_frame reader.left signal reader.after reader.beside (stack_of reader frames.now) (nodes_held reader nodes.old)) }
-{
-    if reader.after | reader.beside {
-        return Taken::Broken;
-    }
-    if reader.left == DEEPEST {
-        return Taken::Broken;
-    }
-    let frame = top_frame(frames, reader.left);
-    let opened = frame.opened;
-    match opened {
-        Opened::Ending => {
-            let otherwise = put(nodes, reader.count, table::NOTHING, 0);
-            let branches = put(nodes, otherwise, table::NOTHING, 0);
-            let count = put(nodes, branches, table::PRESENT, signal);
-            closed(reader.left, at, frame, count, nodes)
+            count: put_if(&mut room.nodes, self.count, after, table::SEQUENCE),
+            ..self
         }
-        Opened::Otherwise => {
-            let branches = put(nodes, reader.count, table::NOTHING, 0);
-            let count = put(nodes, branches, table::PRESENT, signal);
-            closed(reader.left, at, frame, count, nodes)
+    }
+
+    // A statement of one node.
+    pub fn leaf(self, room: &mut Room, kind: u16, operand: u8) -> Self
+        requires { (kind < 16) × Ready self room.old }
+        ensures { Moved self result room.new (single_at self room.old (put_on (node_of kind operand) (nodes_of self room.old))) }
+    {
+        let count = put(&mut room.nodes, self.count, kind, operand);
+        Reader { count, ..self }.met(room, self.after, self.beside)
+    }
+
+    // What is open innermost.
+    fn top(self, room: &Room) -> Option<Frame>
+        requires { Ready self room.now }
+        ensures { Topmost self room.now result }
+    {
+        if self.left == DEEPEST {
+            return None;
         }
-        _ => Taken::Broken,
+        Some(room.frames[self.left])
     }
-}
 
-// A `;` before a chain.
-pub fn semicolon(reader: Reader, at: usize) -> Taken
-    requires { (reader.left ≤ 60) × (reader.count ≤ 1025) }
-    ensures { (fs xs : List ℕ) → length fs ≡ 60 → length xs ≡ 1024 → Moved result at fs xs (due reader.left true reader.beside (stack_of reader fs) (nodes_held reader xs)) }
-{
-    due(at, true, reader.beside, reader.left, reader.count)
-}
-
-// The chain that was met is whole: the node of the `||` behind it goes before it.
-pub fn chain(reader: Reader, nodes: &mut [u16; MOST_NODES]) -> Reader
-    requires { (reader.count ≤ 1025) × (length nodes.old ≡ 1024) }
-    ensures { (result ≡ whole_reader reader result.count) × Stored result.count nodes.new (aside reader.beside (nodes_held reader nodes.old)) }
-{
-    Reader {
-        after: false,
-        beside: reader.beside,
-        left: reader.left,
-        count: put_if(nodes, reader.count, reader.beside, table::PARALLEL),
+    // What was open is whole: a single statement, with so many nodes.
+    fn closed(self, room: &mut Room, frame: Frame, count: Option<usize>) -> Self
+        requires { (self.left < 60) × Counted count × Ready self room.old }
+        ensures { Moved self result room.new (single (suc self.left) frame.after frame.beside (stack_at (suc self.left) room.old.frames) (kept_in count room.old.nodes)) }
+    {
+        let outside = Reader {
+            left: self.left + 1,
+            count,
+            ..self
+        };
+        outside.met(room, frame.after, frame.beside)
     }
-}
 
-// A `||` before a whole chain.
-pub fn bars(reader: Reader, at: usize) -> Taken
-    requires { (reader.left ≤ 60) × (reader.count ≤ 1025) }
-    ensures { (fs xs : List ℕ) → length fs ≡ 60 → length xs ≡ 1024 → Moved result at fs xs (due reader.left false true (stack_of reader fs) (nodes_held reader xs)) }
-{
-    due(at, false, true, reader.left, reader.count)
-}
-
-// `[` before a whole chain.
-pub fn bracket(
-    reader: Reader,
-    at: usize,
-    frames: &[u16; DEEPEST],
-    nodes: &mut [u16; MOST_NODES],
-) -> Taken
-    requires { Ready reader frames.now nodes.old }
-    ensures { Moved result at frames.now nodes.new (open_frame reader.left (nodes_held reader nodes.old) (stack_of reader frames.now)) }
-{
-    if reader.left == DEEPEST {
-        return Taken::Broken;
+    // A `]` or an `end`: one more is open.
+    pub fn open(self, room: &mut Room, opened: Opened) -> Option<Self>
+        requires { Ready self room.old }
+        ensures { Moves self result room.new (push_frame self.left (framed_as opened self.after self.beside (kept_count (nodes_of self room.old)) (stack_of self room.old)) (nodes_of self room.old)) }
+    {
+        let left = self.left.checked_sub(1)?;
+        room.frames[left] = Frame {
+            opened,
+            after: self.after,
+            beside: self.beside,
+            behind: self.count.unwrap_or(0),
+        };
+        Some(Reader { left, ..self }.due(false, false))
     }
-    let frame = top_frame(frames, reader.left);
-    let opened = frame.opened;
-    let Opened::Bracket = opened else {
-        return Taken::Broken;
-    };
-    closed(reader.left, at, frame, reader.count, nodes)
-}
 
-// `loop`, `try` or `signal S in` before its body.
-pub fn body(
-    reader: Reader,
-    at: usize,
-    kind: u16,
-    operand: u8,
-    frames: &[u16; DEEPEST],
-    nodes: &mut [u16; MOST_NODES],
-) -> Taken
-    requires { (kind < 16) × Ready reader frames.now nodes.old }
-    ensures { Moved result at frames.now nodes.new (end_frame reader.left (put_on (node_of kind operand) (nodes_held reader nodes.old)) (stack_of reader frames.now)) }
-{
-    if reader.left == DEEPEST {
-        return Taken::Broken;
-    }
-    let frame = top_frame(frames, reader.left);
-    let opened = frame.opened;
-    let Opened::Ending = opened else {
-        return Taken::Broken;
-    };
-    let whole = put(nodes, reader.count, kind, operand);
-    closed(reader.left, at, frame, whole, nodes)
-}
-
-// `present S then` before its branch: an else branch that was omitted is nothing, behind it.
-pub fn branch(
-    reader: Reader,
-    at: usize,
-    signal: u8,
-    frames: &[u16; DEEPEST],
-    nodes: &mut [u16; MOST_NODES],
-) -> Taken
-    requires { (signal ≤ 100) × Ready reader frames.now nodes.old }
-    ensures { Moved result at frames.now nodes.new (work_all (word Present ∷ signal_of signal ∷ []) (then_frame reader.left (nodes_held reader nodes.old) (stack_of reader frames.now))) }
-{
-    if reader.left == DEEPEST {
-        return Taken::Broken;
-    }
-    let frame = top_frame(frames, reader.left);
-    let opened = frame.opened;
-    match opened {
-        Opened::Ending => {
-            let both = insert_nothing(nodes, reader.count, frame.behind);
-            let whole = put(nodes, both, table::PRESENT, signal);
-            closed(reader.left, at, frame, whole, nodes)
+    // `present S` right before `end` or `else`: the branches that are not there are nothing.
+    pub fn bare(self, room: &mut Room, signal: u8) -> Option<Self>
+        requires { Ready self room.old }
+        ensures { Moves self result room.new (bare_frame self.left signal self.after self.beside (stack_of self room.old) (nodes_of self room.old)) }
+    {
+        if self.after | self.beside {
+            return None;
         }
-        Opened::Otherwise => {
-            let whole = put(nodes, reader.count, table::PRESENT, signal);
-            closed(reader.left, at, frame, whole, nodes)
-        }
-        _ => Taken::Broken,
+        let frame = self.top(room)?;
+        let otherwise = match frame.opened {
+            Opened::Bracket => return None,
+            Opened::Ending => put(&mut room.nodes, self.count, table::NOTHING, 0),
+            Opened::Otherwise => self.count,
+        };
+        let branches = put(&mut room.nodes, otherwise, table::NOTHING, 0);
+        let count = put(&mut room.nodes, branches, table::PRESENT, signal);
+        Some(self.closed(room, frame, count))
     }
-}
 
-// `else` before its branch.
-pub fn otherwise(reader: Reader, at: usize, frames: &mut [u16; DEEPEST]) -> Taken
-    requires { (reader.left ≤ 60) × (reader.count ≤ 1025) × (length frames.old ≡ 60) }
-    ensures { (xs : List ℕ) → length xs ≡ 1024 → Moved result at frames.new xs (else_frame reader.left (nodes_held reader xs) (stack_of reader frames.old)) }
-{
-    if reader.left == DEEPEST {
-        return Taken::Broken;
+    // A `;` before a chain.
+    pub fn semicolon(self) -> Self
+        ensures { (m : Room) → Ready self m → Moved self result m (due self.left true self.beside (stack_of self m) (nodes_of self m)) }
+    {
+        self.due(true, self.beside)
     }
-    let left = reader.left;
-    let frame = top_frame(frames, left);
-    let opened = frame.opened;
-    let Opened::Ending = opened else {
-        return Taken::Broken;
-    };
-    let branch = Frame {
-        opened: Opened::Otherwise,
-        after: frame.after,
-        beside: frame.beside,
-        behind: reader.count,
-    };
-    put_frame(frames, left, branch);
-    due(at, false, false, left, reader.count)
+
+    // The chain that was met is whole: the node of the `||` behind it goes before it.
+    pub fn chain(self, room: &mut Room) -> Self
+        requires { Ready self room.old }
+        ensures { (result ≡ whole_reader self result.count) × Stored result.count room.new.nodes (aside self.beside (nodes_of self room.old)) × (room.new.frames ≡ room.old.frames) }
+    {
+        Reader {
+            after: false,
+            count: put_if(&mut room.nodes, self.count, self.beside, table::PARALLEL),
+            ..self
+        }
+    }
+
+    // A `||` before a whole chain.
+    pub fn bars(self) -> Self
+        ensures { (m : Room) → Ready self m → Moved self result m (due self.left false true (stack_of self m) (nodes_of self m)) }
+    {
+        self.due(false, true)
+    }
+
+    // `[` before a whole chain.
+    pub fn bracket(self, room: &mut Room) -> Option<Self>
+        requires { Ready self room.old }
+        ensures { Moves self result room.new (open_frame self.left (nodes_of self room.old) (stack_of self room.old)) }
+    {
+        let frame = self.top(room)?;
+        let Opened::Bracket = frame.opened else {
+            return None;
+        };
+        Some(self.closed(room, frame, self.count))
+    }
+
+    // `loop`, `try` or `signal S in` before its body.
+    pub fn body(self, room: &mut Room, kind: u16, operand: u8) -> Option<Self>
+        requires { (kind < 16) × Ready self room.old }
+        ensures { Moves self result room.new (end_frame self.left (put_on (node_of kind operand) (nodes_of self room.old)) (stack_of self room.old)) }
+    {
+        let frame = self.top(room)?;
+        let Opened::Ending = frame.opened else {
+            return None;
+        };
+        let count = put(&mut room.nodes, self.count, kind, operand);
+        Some(self.closed(room, frame, count))
+    }
+
+    // `present S then` before its branch: an else branch that was omitted is nothing, behind it.
+    pub fn branch(self, room: &mut Room, signal: u8) -> Option<Self>
+        requires { (signal ≤ 100) × Ready self room.old }
+        ensures { Moves self result room.new (work_all (word Present ∷ signal_of signal ∷ []) (then_frame self.left (nodes_of self room.old) (stack_of self room.old))) }
+    {
+        let frame = self.top(room)?;
+        let branches = match frame.opened {
+            Opened::Bracket => return None,
+            Opened::Ending => insert_nothing(&mut room.nodes, self.count, frame.behind),
+            Opened::Otherwise => self.count,
+        };
+        let count = put(&mut room.nodes, branches, table::PRESENT, signal);
+        Some(self.closed(room, frame, count))
+    }
+
+    // `else` before its branch.
+    pub fn otherwise(self, room: &mut Room) -> Option<Self>
+        requires { Ready self room.old }
+        ensures { Moves self result room.new (else_frame self.left (nodes_of self room.old) (stack_of self room.old)) }
+    {
+        let frame = self.top(room)?;
+        let Opened::Ending = frame.opened else {
+            return None;
+        };
+        room.frames[self.left] = Frame {
+            opened: Opened::Otherwise,
+            ..frame
+        };
+        Some(self.due(false, false))
+    }
 }

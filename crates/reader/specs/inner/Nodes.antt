@@ -53,7 +53,7 @@ kept xs = cond (leb (length xs) 1024) (few xs) many
 
 unfoldable pub kept_count : Kept → ℕ
 kept_count (few xs) = length xs
-kept_count many = 1025
+kept_count many = 0
 
 unfoldable pub put_on : ℕ → Kept → Kept
 put_on x (few xs) = kept (x ∷ xs)

@@ -1,36 +1,35 @@
 -- `reader::lexing::long_number` meets its contract: the loop passes digits.
-use mathlib.Core.Path.{◌≡◌}
-use mathlib.Core.Bool.{true, false}
+use Prim.Native.Nat.{ℕ}
+use mathlib.Core.Path.{◌≡◌, ◌∙◌}
+use mathlib.Core.Bool.{false}
 use native.Mathlib.Omega.{arith}
-use lib.ListN.{take}
+use lib.ListN.{length-take}
 use Rattle.text.specs.Spelling.{last_of}
 use Rattle.text.specs.inner.Lexer.{is_digit}
-use Rattle.reader.proofs.Numbers.{tested, digit_before, figures_more, zero_then_more, number_long}
+use Rattle.text.proofs.Decimal.{is_digit_lem}
+use Rattle.reader.proofs.Bytes.{last_apart}
+use Rattle.reader.proofs.Numbers.{undigit, three_behind, behind_more, behind_length, first_behind, zero_then_more, number_long}
 use Rattle.reader.proofs.lexing.long_number.Goals as goal
+use Rattle.reader.proofs.lexing.long_number.Goals.{in_default, in_default-2, in_default-3}
 
-pub loop-start-init : goal.loop-start-init
-loop-start-init c = (omega arith, c.requires.2)
+pub loop-before-init : goal.loop-before-init
+loop-before-init c = (omega (arith, c.requires.long, length-take {A = ℕ}), three_behind c.args.text.now c.requires)
 
-pub overflow_sub-start-in-loop-start : goal.overflow_sub-start-in-loop-start
-overflow_sub-start-in-loop-start c =
-    let digit : is_digit (last_of (take c.loop-start.start c.args.text.now)) ≡ true = tested c.before-in-loop-start.ensures c.is_digit.ensures c.loop-start-test.true in
-    digit_before _ _ digit
+pub loop-before-preserved : goal.loop-before-preserved
+loop-before-preserved c =
+    (omega (arith, length-take {A = ℕ}), behind_more _ _ _ _ c.loop-before.invariant.1 (last_apart c.loop-before.before.now (omega arith)) (is_digit_lem _ (omega arith) (omega arith)))
 
-pub loop-start-smaller : goal.loop-start-smaller
-loop-start-smaller c = omega (arith, overflow_sub-start-in-loop-start c)
-
-pub loop-start-preserved : goal.loop-start-preserved
-loop-start-preserved c =
-    let digit : is_digit (last_of (take c.loop-start.start c.args.text.now)) ≡ true = tested c.before-in-loop-start.ensures c.is_digit.ensures c.loop-start-test.true in
-    let less = overflow_sub-start-in-loop-start c in
-    (omega arith, figures_more c.args.text.now c.args.end c.requires.0 c.loop-start.start (omega arith) digit c.loop-start.invariant.1)
-
-pub returns-then-text-start-eq48 : goal.returns-then-text-start-eq48
-returns-then-text-start-eq48 c =
-    let no_digit : is_digit (last_of (take c.loop-start.start c.args.text.now)) ≡ false = tested c.before-in-loop-start.ensures c.is_digit.ensures c.loop-start-test.false in
-    zero_then_more _ _ c.requires.0 _ c.loop-start.invariant.0 c.loop-start.invariant.1 no_digit c.if-text-start-eq48.true
+pub returns-then-text-before-eq48 : goal.returns-then-text-before-eq48
+returns-then-text-before-eq48 c =
+    let B = c.loop-before.invariant.1 in
+    let bounded : is_digit (last_of c.loop-before.before.now) ≡ false =
+    undigit c.loop-before.before.now (λ l h k. elim c.if-before-lt1.branch [ in_default w ↦ omega arith | in_default-2 w ↦ omega arith | in_default-3 w ↦ omega arith ]) in
+    zero_then_more _ _ _ B.cut bounded (omega (arith, behind_length _ _ B)) B.all (first_behind _ _ B ∙ c.if-text-before-eq48.true)
 
 pub returns : goal.returns
 returns c =
-    let no_digit : is_digit (last_of (take c.loop-start.start c.args.text.now)) ≡ false = tested c.before-in-loop-start.ensures c.is_digit.ensures c.loop-start-test.false in
-    number_long _ _ c.requires.0 _ c.loop-start.invariant.0 c.loop-start.invariant.1 no_digit c.if-text-start-eq48.false
+    let B = c.loop-before.invariant.1 in
+    let bounded : is_digit (last_of c.loop-before.before.now) ≡ false =
+    undigit c.loop-before.before.now (λ l h k. elim c.if-before-lt1.branch [ in_default w ↦ omega arith | in_default-2 w ↦ omega arith | in_default-3 w ↦ omega arith ]) in
+    let first = first_behind _ _ B in
+    number_long _ _ _ B.cut bounded (omega (arith, behind_length _ _ B)) B.all (λ e. omega arith)

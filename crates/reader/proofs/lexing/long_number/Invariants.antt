@@ -1,10 +1,10 @@
 use Prim.Native.Nat.{◌+◌, ◌≤◌}
-use lib.Seq.{slice}
-use Rattle.reader.specs.inner.Ending.{Figures}
+use lib.ListN.{length}
+use Rattle.reader.proofs.Numbers.{Behind}
 use Rattle.reader.proofs.lexing.long_number.Given as goal
 
-abbrev pub invariant-loop-start : goal.invariant-loop-start
-invariant-loop-start l = (l.start + 3 ≤ l.end) × Figures (slice l.start l.end l.text)
+abbrev pub invariant-loop-before : goal.invariant-loop-before
+invariant-loop-before l = (length l.before + 3 ≤ length l.text) × Behind l.text l.before
 
-abbrev pub decreases-loop-start : goal.decreases-loop-start
-decreases-loop-start l = l.start
+abbrev pub decreases-loop-before : goal.decreases-loop-before
+decreases-loop-before l = length l.before

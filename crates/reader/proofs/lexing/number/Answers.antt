@@ -1,86 +1,41 @@
--- `reader::lexing::number` meets its contract.
-use mathlib.Core.Path.{◌≡◌, refl, sym, ◌∙◌}
-use mathlib.Core.Bool.{true}
+-- `reader::lexing::number` meets its contract: no digit, one, two or more stand there.
+use mathlib.Core.Path.{refl, ap, ◌∙◌}
 use native.Mathlib.Omega.{arith}
+use Rattle.text.specs.Spelling.{last_of}
 use Rattle.text.specs.inner.Lexer.{is_digit}
-use Rattle.text.proofs.Decimal.{digit_range}
-use Rattle.reader.proofs.Numbers.{tested, no_number, some_before, number_one, two_before, three_digits, zero_then_one, number_two}
+use Rattle.reader.proofs.Bytes.{last_snoc}
+use Rattle.reader.proofs.Numbers.{tested, last_tested, no_digit, no_number, some_digit, two_apart, three_digits, number_one, zero_then_one, number_two}
 use Rattle.reader.proofs.lexing.number.Goals as goal
 
-pub returns-then-not-is_digit : goal.returns-then-not-is_digit
-returns-then-not-is_digit c =
-    no_number c.args.text.now c.args.end (tested c.before-ones.ensures c.is_digit.ensures c.if-not-is_digit.true)
+pub returns-in_err-ones : goal.returns-in_err-ones
+returns-in_err-ones c = rw c.from_residual.ensures (no_number _ (no_digit _ (omega (arith, c.in_err-ones.ensures.cases))))
 
-pub overflow_sub-end : goal.overflow_sub-end
-overflow_sub-end c =
-    let ones_digit : is_digit c.before-ones.result ≡ true = sym c.is_digit.ensures ∙ c.if-not-is_digit.false in
-    some_before _ _ c.requires _ _ c.before-ones.ensures refl ones_digit
+pub returns-then-not-is_ascii_digit : goal.returns-then-not-is_ascii_digit
+returns-then-not-is_ascii_digit c =
+    no_number _ (ap is_digit (ap last_of c.in_ok-ones.ensures.cases.0 ∙ last_snoc _ _) ∙ tested _ c.is_ascii_digit.ensures.value c.if-not-is_ascii_digit.true)
 
-pub overflow_sub-result : goal.overflow_sub-result
-overflow_sub-result c =
-    let ones_digit : is_digit c.before-ones.result ≡ true = sym c.is_digit.ensures ∙ c.if-not-is_digit.false in
-    (digit_range _ ones_digit).0
+pub returns-then-not-is_ascii_digit-2 : goal.returns-then-not-is_ascii_digit-2
+returns-then-not-is_ascii_digit-2 c =
+    number_one _ _ _ c.in_ok-ones.ensures.cases.0 (last_tested _ c.last-tens.ensures c.is_ascii_digit-2.ensures.value c.if-not-is_ascii_digit-2.true) _ refl (tested _ c.is_ascii_digit.ensures.value c.if-not-is_ascii_digit.false)
 
-pub overflow_sub-result-then-not-is_digit-2 : goal.overflow_sub-result-then-not-is_digit-2
-overflow_sub-result-then-not-is_digit-2 c =
-    let ones_digit : is_digit c.before-ones.result ≡ true = sym c.is_digit.ensures ∙ c.if-not-is_digit.false in
-    some_before _ _ c.requires _ _ c.before-ones.ensures refl ones_digit
-
-pub returns-then-not-is_digit-2 : goal.returns-then-not-is_digit-2
-returns-then-not-is_digit-2 c =
-    let ones_digit : is_digit c.before-ones.result ≡ true = sym c.is_digit.ensures ∙ c.if-not-is_digit.false in
-    number_one _ _ c.requires _ _ c.before-ones.ensures c.before-tens.ensures ones_digit (sym c.is_digit-2.ensures ∙ c.if-not-is_digit-2.true)
-
-pub overflow_sub-end-2 : goal.overflow_sub-end-2
-overflow_sub-end-2 c =
-    let ones_digit : is_digit c.before-ones.result ≡ true = sym c.is_digit.ensures ∙ c.if-not-is_digit.false in
-    let tens_digit : is_digit c.before-tens.result ≡ true = sym c.is_digit-2.ensures ∙ c.if-not-is_digit-2.false in
-    two_before _ _ c.requires _ _ c.before-ones.ensures c.before-tens.ensures ones_digit tens_digit
+pub slice_bounds-before-count : goal.slice_bounds-before-count
+slice_bounds-before-count c = some_digit _ (last_tested _ c.last-tens.ensures c.is_ascii_digit-2.ensures.value c.if-not-is_ascii_digit-2.false)
 
 pub long_number-requires : goal.long_number-requires
 long_number-requires c =
-    let ones_digit : is_digit c.before-ones.result ≡ true = sym c.is_digit.ensures ∙ c.if-not-is_digit.false in
-    let tens_digit : is_digit c.before-tens.result ≡ true = sym c.is_digit-2.ensures ∙ c.if-not-is_digit-2.false in
-    let h = three_digits _ _ c.requires _ _ c.before-ones.ensures c.before-tens.ensures ones_digit tens_digit (tested c.before-2.ensures c.is_digit-3.ensures c.if-is_digit.true) in
-    (c.requires, h.0, h.1)
+    three_digits _ _ _ _ c.in_ok-ones.ensures.cases.0 (tested _ c.is_ascii_digit.ensures.value c.if-not-is_ascii_digit.false) (some_digit _ (last_tested _ c.last-tens.ensures c.is_ascii_digit-2.ensures.value c.if-not-is_ascii_digit-2.false))
+    (last_tested _ c.last-tens.ensures c.is_ascii_digit-2.ensures.value c.if-not-is_ascii_digit-2.false) refl (last_tested _ c.last.ensures c.is_ascii_digit-3.ensures.value c.if-is_ascii_digit.true)
 
 pub returns-then-tens-eq48 : goal.returns-then-tens-eq48
 returns-then-tens-eq48 c =
-    let ones_digit : is_digit c.before-ones.result ≡ true = sym c.is_digit.ensures ∙ c.if-not-is_digit.false in
-    let tens_digit : is_digit c.before-tens.result ≡ true = sym c.is_digit-2.ensures ∙ c.if-not-is_digit-2.false in
-    zero_then_one _ _ c.requires _ _ c.before-ones.ensures c.before-tens.ensures ones_digit tens_digit (tested c.before-2.ensures c.is_digit-3.ensures c.if-is_digit.false) c.if-tens-eq48.true
-
-pub overflow_sub-result-2 : goal.overflow_sub-result-2
-overflow_sub-result-2 c =
-    let tens_digit : is_digit c.before-tens.result ≡ true = sym c.is_digit-2.ensures ∙ c.if-not-is_digit-2.false in
-    (digit_range _ tens_digit).0
-
-pub overflow_mul-result : goal.overflow_mul-result
-overflow_mul-result c =
-    let tens_digit : is_digit c.before-tens.result ≡ true = sym c.is_digit-2.ensures ∙ c.if-not-is_digit-2.false in
-    let r = digit_range _ tens_digit in omega arith
-
-pub overflow_sub-result-3 : goal.overflow_sub-result-3
-overflow_sub-result-3 c =
-    let ones_digit : is_digit c.before-ones.result ≡ true = sym c.is_digit.ensures ∙ c.if-not-is_digit.false in
-    (digit_range _ ones_digit).0
-
-pub overflow_add-result : goal.overflow_add-result
-overflow_add-result c =
-    let ones_digit : is_digit c.before-ones.result ≡ true = sym c.is_digit.ensures ∙ c.if-not-is_digit.false in
-    let tens_digit : is_digit c.before-tens.result ≡ true = sym c.is_digit-2.ensures ∙ c.if-not-is_digit-2.false in
-    let tens = digit_range _ tens_digit in
-    let ones = digit_range _ ones_digit in
-    omega arith
-
-pub overflow_sub-result-4 : goal.overflow_sub-result-4
-overflow_sub-result-4 c =
-    let ones_digit : is_digit c.before-ones.result ≡ true = sym c.is_digit.ensures ∙ c.if-not-is_digit.false in
-    let tens_digit : is_digit c.before-tens.result ≡ true = sym c.is_digit-2.ensures ∙ c.if-not-is_digit-2.false in
-    two_before _ _ c.requires _ _ c.before-ones.ensures c.before-tens.ensures ones_digit tens_digit
+    let ones = tested _ c.is_ascii_digit.ensures.value c.if-not-is_ascii_digit.false in
+    let tens = tested _ c.is_ascii_digit-2.ensures.value c.if-not-is_ascii_digit-2.false in
+    let apart = two_apart _ _ _ _ c.in_ok-ones.ensures.cases.0 (some_digit _ (last_tested _ c.last-tens.ensures c.is_ascii_digit-2.ensures.value c.if-not-is_ascii_digit-2.false)) c.last-tens.ensures in
+    zero_then_one _ _ _ apart (last_tested _ c.last.ensures c.is_ascii_digit-3.ensures.value c.if-is_ascii_digit.false) _ _ refl tens ones c.if-tens-eq48.true
 
 pub returns : goal.returns
 returns c =
-    let ones_digit : is_digit c.before-ones.result ≡ true = sym c.is_digit.ensures ∙ c.if-not-is_digit.false in
-    let tens_digit : is_digit c.before-tens.result ≡ true = sym c.is_digit-2.ensures ∙ c.if-not-is_digit-2.false in
-    number_two _ _ c.requires _ _ c.before-ones.ensures c.before-tens.ensures ones_digit tens_digit (tested c.before-2.ensures c.is_digit-3.ensures c.if-is_digit.false) (omega arith)
+    let ones = tested _ c.is_ascii_digit.ensures.value c.if-not-is_ascii_digit.false in
+    let tens = tested _ c.is_ascii_digit-2.ensures.value c.if-not-is_ascii_digit-2.false in
+    let apart = two_apart _ _ _ _ c.in_ok-ones.ensures.cases.0 (some_digit _ (last_tested _ c.last-tens.ensures c.is_ascii_digit-2.ensures.value c.if-not-is_ascii_digit-2.false)) c.last-tens.ensures in
+    number_two _ _ _ apart (last_tested _ c.last.ensures c.is_ascii_digit-3.ensures.value c.if-is_ascii_digit.false) _ _ refl tens ones c.if-tens-eq48.false

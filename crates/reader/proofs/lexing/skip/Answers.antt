@@ -1,26 +1,21 @@
--- `reader::lexing::skip` meets its contract: the loop passes blanks, and ends since the text does not begin with one.
-use mathlib.Core.Path.{sym, ◌∙◌}
+-- `reader::lexing::skip` meets its contract: the loop passes blanks.
 use native.Mathlib.Omega.{arith}
-use Rattle.reader.proofs.Blanks.{passing_none, not_first, passing_more, skipped_to, skipped_none}
+use Rattle.std.proofs.lemmas.Bool.Decides.{nat_tests}
+use Rattle.reader.specs.inner.Ending.{blank_byte}
+use Rattle.reader.proofs.Bytes.{last_apart, solid_none, solid_last}
+use Rattle.reader.proofs.Blanks.{passing_none, passing_more, skipped_to}
 use Rattle.reader.proofs.lexing.skip.Goals as goal
 
-pub returns-then-end-eq0 : goal.returns-then-end-eq0
-returns-then-end-eq0 c = skipped_none _ _ c.if-end-eq0.true
+pub loop-before-init : goal.loop-before-init
+loop-before-init c = passing_none _ c.requires
 
-pub loop-at-init : goal.loop-at-init
-loop-at-init c = passing_none _ _ (omega arith)
+pub loop-before-preserved : goal.loop-before-preserved
+unfolding blank_byte
+loop-before-preserved c = passing_more _ _ c.loop-before.invariant _ _ (last_apart c.loop-before.before.now (omega arith)) (grind (arith, nat_tests))
 
-pub overflow_sub-at-in-loop-at : goal.overflow_sub-at-in-loop-at
-overflow_sub-at-in-loop-at c =
-    not_first _ _ _ c.requires.0 c.loop-at.invariant c.requires.1 (sym c.is_blank.ensures ∙ c.loop-at-test.true)
+pub returns-in_default : goal.returns-in_default
+returns-in_default c = skipped_to _ _ c.loop-before.invariant (solid_none _ c.in_default.len_below)
 
-pub loop-at-smaller : goal.loop-at-smaller
-loop-at-smaller c = omega (arith, overflow_sub-at-in-loop-at c)
-
-pub loop-at-preserved : goal.loop-at-preserved
-loop-at-preserved c =
-    passing_more _ _ _ c.requires.0 c.loop-at.invariant c.requires.1 (sym c.is_blank.ensures ∙ c.loop-at-test.true)
-
-pub returns : goal.returns
-returns c =
-    skipped_to _ _ _ c.requires.0 c.loop-at.invariant (sym c.is_blank.ensures ∙ c.loop-at-test.false)
+pub returns-in_default-2 : goal.returns-in_default-2
+unfolding blank_byte
+returns-in_default-2 c = skipped_to _ _ c.loop-before.invariant (solid_last _ c.in_default.len_at_least (grind (arith, nat_tests)))

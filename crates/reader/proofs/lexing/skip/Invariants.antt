@@ -1,8 +1,9 @@
+use lib.ListN.{length}
 use Rattle.reader.proofs.Blanks.{Passing}
 use Rattle.reader.proofs.lexing.skip.Given as goal
 
-abbrev pub invariant-loop-at : goal.invariant-loop-at
-invariant-loop-at l = Passing l.text l.end l.at
+abbrev pub invariant-loop-before : goal.invariant-loop-before
+invariant-loop-before l = Passing l.text l.before
 
-abbrev pub decreases-loop-at : goal.decreases-loop-at
-decreases-loop-at l = l.at
+abbrev pub decreases-loop-before : goal.decreases-loop-before
+decreases-loop-before l = length l.before

@@ -1,16 +1,24 @@
--- `reader::nodes::insert_nothing` meets its contract. The loop's invariant: the nodes before `at` have moved one place forward.
-use borrow.Author.Rules.{rules}
-use Rattle.reader.proofs.Held.{shifted_none, shifted_next, inserted, insert_none}
+-- `reader::nodes::insert_nothing` meets its contract: the nodes before the place are copied one place forward.
+use native.Mathlib.Omega.{arith}
+use Prim.Native.Nat.{◌+◌, ◌-◌, min}
+use mathlib.Core.Path.{◌≡◌, refl, ◌∙◌}
+use Rattle.reader.specs.inner.Nodes.{insert_on}
+use Rattle.reader.proofs.Held.{Shifted, not_told, shifted_to, inserted, insert_none}
 use Rattle.reader.proofs.nodes.insert_nothing.Goals as goal
 
-pub returns-then-count-ge-MOST_NODES : goal.returns-then-count-ge-MOST_NODES
-returns-then-count-ge-MOST_NODES c = insert_none _ _ _ c.if-count-ge-MOST_NODES.true c.requires
+pub returns-in_err-count : goal.returns-in_err-count
+unfolding insert_on
+returns-in_err-count c = not_told (insert_on _) _ refl c.in_err-count.was c.from_residual.ensures c.told-nodes
 
-pub loop-at-init : goal.loop-at-init
-loop-at-init c = (search rules, search rules, search rules, shifted_none _ _ c.if-count-ge-MOST_NODES.false c.requires)
-
-pub loop-at-preserved : goal.loop-at-preserved
-loop-at-preserved c = (search rules, search rules, search rules, shifted_next _ _ (search rules) (search rules) _ _ c.loop-at.invariant.3 (search rules) (search rules))
+pub returns-in_err-at : goal.returns-in_err-at
+returns-in_err-at c =
+    insert_none c.in_ok-count.count _ _ c.in_ok-count.was c.from_residual-in_err-at.ensures (omega (arith, c.in_err-at.ensures)) c.told-nodes
 
 pub returns : goal.returns
-returns c = inserted _ _ (search rules) (search rules) _ _ c.loop-at.invariant.3 c.node_of.ensures (search rules) (search rules) (search rules)
+returns c =
+    let place = c.in_ok-at.ensures in
+    let least = c.min-end.ensures in
+    let end : 1024 - c.min-end.result ≡ 1024 - min c.args.behind c.in_ok-count.count = omega arith in
+    let shifted : Shifted c.in_ok-count.count (1024 - c.min-end.result) c.args.nodes.now c.copy_within.new.self =
+    shifted_to c.in_ok-count.count c.args.nodes.now (omega arith) c.told-nodes (c.in_ok-at.at + 1) _ c.in_ok-at.at c.copy_within.ensures.after (omega arith) (omega arith) (omega arith) (omega arith) in
+    inserted c.in_ok-count.count c.args.nodes.now (omega arith) c.told-nodes c.args.behind c.copy_within.new.self c.in_ok-count.was shifted c.node_of.ensures end refl (c.copy_within.ensures.len ∙ c.told-nodes)

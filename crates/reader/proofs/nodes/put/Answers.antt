@@ -1,9 +1,17 @@
 -- `reader::nodes::put` meets its contract.
-use Rattle.reader.proofs.Held.{put_one, put_none}
+use native.Mathlib.Omega.{arith}
+use mathlib.Core.Path.{refl}
+use Rattle.reader.specs.inner.Nodes.{put_on}
+use Rattle.reader.proofs.Held.{not_told, put_one, put_none}
 use Rattle.reader.proofs.nodes.put.Goals as goal
 
-pub returns-then-count-ge-MOST_NODES : goal.returns-then-count-ge-MOST_NODES
-returns-then-count-ge-MOST_NODES c = put_none _ _ _ c.if-count-ge-MOST_NODES.true c.requires.1
+pub returns-in_err-count : goal.returns-in_err-count
+unfolding put_on
+returns-in_err-count c = not_told (put_on _) _ refl c.in_err-count.was c.from_residual.ensures c.told-nodes
+
+pub returns-in_err-at : goal.returns-in_err-at
+returns-in_err-at c =
+    put_none c.in_ok-count.count _ _ c.in_ok-count.was c.from_residual-in_err-at.ensures (omega (arith, c.in_err-at.ensures)) c.told-nodes
 
 pub returns : goal.returns
-returns c = put_one _ _ c.node_of.ensures c.if-count-ge-MOST_NODES.false c.requires.1
+returns c = put_one _ _ _ c.in_ok-count.was c.node_of.ensures (omega (arith, c.in_ok-at.ensures)) c.told-nodes

@@ -1,8 +1,9 @@
+use lib.ListN.{length}
 use Rattle.reader.proofs.Loops.{Parsing}
 use Rattle.reader.proofs.parsing.parse.Given as goal
 
-abbrev pub invariant-loop-end : goal.invariant-loop-end
-invariant-loop-end l = Parsing l.text l.end l.is_due l.ranged l.reader l.frames l.nodes
+abbrev pub invariant-loop-rest : goal.invariant-loop-rest
+invariant-loop-rest l = Parsing l.text l.rest l.reader l.room
 
-abbrev pub decreases-loop-end : goal.decreases-loop-end
-decreases-loop-end l = l.end
+abbrev pub decreases-loop-rest : goal.decreases-loop-rest
+decreases-loop-rest l = length l.rest

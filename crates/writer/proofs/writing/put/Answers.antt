@@ -1,18 +1,27 @@
--- The bytes of the word are pasted at the place.
+-- So many bytes of the word are there.
+use mathlib.Core.Path.{◌≡◌, refl, ap, ◌∙◌}
 use native.Mathlib.Omega.{arith}
-use Rattle.table.proofs.Bits.{length_bytes}
-use Rattle.writer.proofs.Putting.{put_word}
-use mathlib.Core.Path.{refl}
+use lib.ListN.{length, length-set}
+use lib.Seq.{paste}
+use Rattle.std.proofs.lemmas.List.Edits.{paste_none, paste_more, paste_all}
+use Rattle.writer.specs.inner.Putting.{put_at}
 use Rattle.writer.proofs.writing.put.Goals as goal
 
-pub put_bytes-requires : goal.put_bytes-requires
-put_bytes-requires c =
-    (c.requires.0, omega (arith, c.requires.1.fits, length_bytes c.args.count c.args.word))
+pub loop-i-init : goal.loop-i-init
+loop-i-init c = (refl, paste_none c.args.out.now c.args.place c.args.word.now)
 
-pub overflow_add-result : goal.overflow_add-result
-overflow_add-result c =
-    omega (arith, c.requires.1.fits, length_bytes c.args.count c.args.word, c.well_formed)
+pub loop-i-preserved : goal.loop-i-preserved
+loop-i-preserved c = (
+  simp length-set c.loop-i.invariant.0,
+  rw c.loop-i.invariant.1 (paste_more c.args.out.now c.args.place c.args.word.now c.loop-i.i 0 (omega arith) (omega arith)),
+)
 
 pub returns : goal.returns
+unfolding put_at
 returns c =
-    put_word c.args.place c.args.count c.args.word _ _ _ c.requires.1 c.put_bytes.ensures refl
+    let all : c.loop-i.i ≡ length c.args.word.now = omega arith in
+    record {
+      room = c.requires;
+      behind = refl;
+      holds = c.loop-i.invariant.1 ∙ ap (paste c.args.out.now c.args.place c.args.word.now) all ∙ paste_all c.args.out.now c.args.place c.args.word.now _ refl;
+    }

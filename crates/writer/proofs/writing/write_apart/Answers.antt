@@ -1,20 +1,24 @@
 -- The text stands in front of the area, and is copied where the buffer is long enough.
-use Rattle.writer.specs.inner.Texts.{level_asked}
-use Rattle.writer.proofs.Answers.{delivered_short, delivered_copied}
+use mathlib.Core.Path.{ap}
+use mathlib.Core.List.{List, ◌++◌}
 use native.Mathlib.Omega.{arith}
--- behind the writing: the start
+use Prim.Native.Nat.{ℕ}
+use lib.ListN.{drop, length-replicate}
+use Rattle.writer.proofs.Answers.{delivered_short, delivered_front}
 use Rattle.writer.proofs.writing.write_apart.Goals as goal
 
-pub write_at-end-requires : goal.write_at-end-requires
-unfolding level_asked
-write_at-end-requires c = c.requires
+pub whole_as_slice-write_nodes : goal.whole_as_slice-write_nodes
+whole_as_slice-write_nodes g c = omega (arith, c.requires.small)
+
+pub write_nodes-end-requires : goal.write_nodes-end-requires
+write_nodes-end-requires g c = (c.requires.readable, simp length-replicate c.requires.room)
 
 pub returns-then-out-end : goal.returns-then-out-end
-unfolding level_asked
-returns-then-out-end c =
-    delivered_short _ c.args.out.now (omega (arith, c.if-out-end.true, c.write_at-end.ensures.put.behind))
+returns-then-out-end g c = delivered_short _ c.args.out.now (omega (arith, c.if-out-end.true, c.write_nodes-end.ensures.end))
+
+pub shared_whole_as_front-copy_from_slice : goal.shared_whole_as_front-copy_from_slice
+shared_whole_as_front-copy_from_slice g c = (omega (arith, c.requires.room, c.write_nodes-end.ensures.end), omega (arith, c.requires.small))
 
 pub returns : goal.returns
-unfolding level_asked
-returns c =
-    delivered_copied c.write_at-end.ensures.put c.args.out.now _ c.if-out-end.false c.copy.ensures
+returns g c =
+    delivered_front _ c.if-out-end.false c.write_nodes-end.ensures.end c.write_nodes-end.ensures.text (ap (λ (l : List ℕ). l ++ drop c.write_nodes-end.result c.args.out.now) c.copy_from_slice.ensures.after)

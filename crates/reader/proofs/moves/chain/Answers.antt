@@ -1,8 +1,0 @@
--- `reader::moves::chain` meets its contract: the node of the `||` is what the machine puts aside.
-use mathlib.Core.Path.{refl}
-use Rattle.reader.specs.inner.Nodes.{aside}
-use Rattle.reader.proofs.moves.chain.Goals as goal
-
-pub returns : goal.returns
-unfolding aside
-returns c = (refl, c.put_if.ensures)

@@ -1,8 +1,0 @@
--- `reader::moves::met` meets its contract: a single statement that was met is what the machine meets.
-use Rattle.reader.specs.inner.Nodes.{chained}
-use Rattle.reader.proofs.Moving.{moved_met}
-use Rattle.reader.proofs.moves.met.Goals as goal
-
-pub returns : goal.returns
-unfolding chained
-returns c = moved_met _ _ c.put_if-all.ensures c.requires.0
