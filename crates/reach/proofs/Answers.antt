@@ -4,6 +4,7 @@
 use mathlib.Core.Path.{◌≡◌, refl, sym, ap, ◌∙◌}
 use mathlib.Core.Bool.{Bool}
 use mathlib.Core.List.{List}
+use Rattle.std.proofs.Common.{Result, Ok, Err}
 use Prim.Native.Nat.{ℕ, suc, ◌≤◌}
 use native.Mathlib.Omega.{arith}
 use Rattle.esterel.specs.Statement.{Statement, pause_count}
@@ -13,41 +14,39 @@ use Rattle.esterel.proofs.Codes.{codes_equal}
 use Rattle.esterel.proofs.Exits.{valid_exits, no_higher}
 use Rattle.esterel.proofs.Reachability.{rounds_few}
 use Rattle.esterel.proofs.Validity.{valid_levels}
-use Rattle.table.specs.Outcomes.{refusal, values, number_of}
+use Rattle.table.specs.Outcomes.{refusal, values, number_of, number_of_refusal}
 use Rattle.table.specs.Reading.{Table, refused, holds, table_of}
 use Rattle.table.specs.inner.Places.{statement_of}
 use Rattle.table.proofs.Accepted.{accepted}
 use Rattle.table.proofs.Refusals.{OfCheck, table_refusals, zero_accepted}
-use Rattle.reach.specs.declared.Analysed.{Analysed}
-use Rattle.reach.specs.declared.Analysed.TheVariants as analysed
-use Rattle.reach.specs.declared.Analysed.TheVariants.{Rest}
-use Rattle.reach.specs.declared.Reached.TheVariants.{Refused, Found}
+use Rattle.table.specs.declared.Refusal.{Refusal}
 use Rattle.reach.specs.declared.Settled.{Settled}
-use Rattle.reach.specs.inner.CodeSets.{codes_of}
 use Rattle.reach.specs.inner.Rounds.{Reaches}
 use Rattle.reach.specs.Answers.{reached_outcome, reach_in, reach_of}
 
 -- ---- The analysis rests
-pub rest_same : {a b : Settled} → Rest a ≡ Rest b → a ≡ b
+pub rest_same : {a b : Settled} → ◌≡◌ {A = Result Settled Refusal} (Ok a) (Ok b) → a ≡ b
 rest_same e = cc
 
-pub never_refused : (xs : List ℕ) (r : Analysed) → Reaches xs r → r ≡ analysed.Refused → ⊥
-never_refused xs r x e = let q : Rest x.found ≡ analysed.Refused = sym x.rest ∙ e in let z : ◌≡◌ {A = ℕ} 0 1 = cc in omega arith
+pub never_refused : (xs : List ℕ) {r : Result Settled Refusal} {w : Refusal} → Reaches xs r → r ≡ Err w → ⊥
+never_refused xs x e = let q : ◌≡◌ {A = Result Settled Refusal} (Ok x.found) (Err _) = sym x.rest ∙ e in let z : ◌≡◌ {A = ℕ} 0 1 = cc in omega arith
 
 -- ---- The answer
 module _ (t : List ℕ) where
-  pub reach_refused : (w : ℕ) → table_of t ≡ refused w → reached_outcome (Refused w) ≡ reach_of t
-  unfolding reached_outcome reach_of reach_in
+  pub reach_refused : (w : Refusal) → table_of t ≡ refused (number_of_refusal w) → reached_outcome (Err w) ≡ reach_of t
+  unfolding reach_of reach_in
   reach_refused w h = sym (ap reach_in h)
 
-  pub reach_found : (xs : List ℕ) (n : ℕ) (p : Statement) → table_of t ≡ holds n p → statement_of xs ≡ p → (r : Analysed) (x : Reaches xs r) (found : Settled) → r ≡ Rest found
-      → (ends : Bool) → ends ≡ (codes_of found.start).ends → reached_outcome (Found ends found.start.labels found.set found.rounds) ≡ reach_of t
-  unfolding reached_outcome reach_of reach_in labels codes_of
-  reach_found xs n p h is r x found e ends b =
-      let same : x.found ≡ found = rest_same (sym x.rest ∙ e) in
-      let start_is : codes_of found.start ≡ s (statement_of xs) = ap (λ (f : Settled). codes_of f.start) (sym same) ∙ x.start in
+  -- of what was found, the answer has whether s has 0, and its labels
+  pub reach_found : (xs : List ℕ) (n : ℕ) (p : Statement) → table_of t ≡ holds n p → statement_of xs ≡ p → (found : Settled) → Reaches xs (Ok found)
+      → (ends : Bool) (own : ℕ) → ends ≡ found.start.ends → own ≡ found.start.pausing
+      → reached_outcome (Ok (record { ends = ends; labels = own; set = found.set; rounds = found.rounds })) ≡ reach_of t
+  unfolding reach_of reach_in labels
+  reach_found xs n p h is found x ends own b l =
+      let same : x.found ≡ found = rest_same (sym x.rest) in
+      let start_is : found.start ≡ s (statement_of xs) = ap (λ (f : Settled). f.start) (sym same) ∙ x.start in
       let ends-are : ends ≡ (s (statement_of xs)).ends = b ∙ ap (λ (K : Codes). K.ends) start_is in
-      let labels-are : found.start.labels ≡ (s (statement_of xs)).pausing = ap (λ (K : Codes). K.pausing) start_is in
+      let labels-are : own ≡ (s (statement_of xs)).pausing = l ∙ ap (λ (K : Codes). K.pausing) start_is in
       let set_is : found.set ≡ (rounds.reach (statement_of xs)).set = ap (λ (f : Settled). f.set) (sym same) ∙ x.set in
       let rounds-are : found.rounds ≡ (rounds.reach (statement_of xs)).rounds = ap (λ (f : Settled). f.rounds) (sym same) ∙ x.rounds in
       rw (ends-are, labels-are, set_is, rounds-are, is) (sym (ap reach_in h))

@@ -14,10 +14,10 @@ use Rattle.sets.proofs.Booleans.{clash, eqb_differ}
 use Rattle.sets.proofs.Members.{has_union, bit, only_fits}
 use Rattle.esterel.specs.Codes.{Codes, none, just_ended, just_at, just_code, join, minus_zero, through_try, has_low, not_below, no_lower_than}
 use Rattle.esterel.proofs.Codes.{join_none}
-use Rattle.reach.specs.declared.codes.CodeSet.{CodeSet}
+use Rattle.reach.specs.declared.codes.CodeSet.TheInside.{Inside}
 use Rattle.reach.specs.inner.CodeSets.{place_of, codes_of, followed_by}
 
-abbrev pub words : ℕ → ℕ → CodeSet
+abbrev pub words : ℕ → ℕ → Inside
 words l k = record { labels = l; codes = k }
 
 abbrev codes : Bool → ℕ → ℕ → Codes
@@ -66,20 +66,20 @@ or_up x y =
     let g : bit_or x y * 4 + 0 ≡ bit_or x y * 4 = omega arith in
     sym g ∙ sym (or_block 2 x y 0 0 (omega arith) (omega arith)) ∙ ap₂ bit_or e f
 
-pub view_join : (a b : CodeSet) → codes_of (words (bit_or a.labels b.labels) (bit_or a.codes b.codes)) ≡ join (codes_of a) (codes_of b)
+pub view_join : (a b : Inside) → codes_of (words (bit_or a.labels b.labels) (bit_or a.codes b.codes)) ≡ join (codes_of a) (codes_of b)
 unfolding codes_of join ◌union◌
 view_join a b =
     let e : bit_or a.codes b.codes / 2 ≡ bit_or (a.codes / 2) (b.codes / 2) = or_shr a.codes b.codes 1 in
     parts (has_union a.codes b.codes 0) refl (ap (λ (n : ℕ). n * 4) e ∙ or_up (a.codes / 2) (b.codes / 2))
 
-pub view_minus : (a : CodeSet) → a.codes < 2 ^ 64 → codes_of (words a.labels (a.codes / 2 * 2 % 2 ^ 64)) ≡ minus_zero (codes_of a)
+pub view_minus : (a : Inside) → a.codes < 2 ^ 64 → codes_of (words a.labels (a.codes / 2 * 2 % 2 ^ 64)) ≡ minus_zero (codes_of a)
 unfolding codes_of minus_zero has
 view_minus a h =
     let f : a.codes / 2 * 2 % 2 ^ 64 ≡ a.codes / 2 * 2 = mod-eq_of_lt (omega arith) in
     let e : a.codes / 2 * 2 % 2 ^ 64 % 2 ≡ 0 = rw f (omega arith) in
     parts (ap (λ (n : ℕ). eqb n 1) e) refl (rw f (omega arith))
 
-pub view_try : (a : CodeSet) → codes_of (words a.labels (bit_or (bit_and a.codes 1) (a.codes / 2))) ≡ through_try (codes_of a)
+pub view_try : (a : Inside) → codes_of (words a.labels (bit_or (bit_and a.codes 1) (a.codes / 2))) ≡ through_try (codes_of a)
 unfolding codes_of through_try has ◌union◌
 view_try a = parts low refl high
   where
@@ -213,7 +213,7 @@ even_low m h = go (bit m)
     go (inr e) = clash (ap (λ (n : ℕ). eqb n 1) e) h
 
 -- only codes of 2 and up are in b
-pub higher_kept : (a b : CodeSet) → (codes_of b).ends ≡ false → b.labels ≡ 0
+pub higher_kept : (a b : Inside) → (codes_of b).ends ≡ false → b.labels ≡ 0
     → codes_of (words 0 (not_below a.codes a.codes b.codes)) ≡ no_lower_than (codes_of a) (codes_of b)
 unfolding codes_of has_low has
 higher_kept a b h l =

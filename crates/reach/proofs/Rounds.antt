@@ -5,6 +5,7 @@ use mathlib.Core.Path.{◌≡◌, refl, sym, ap, ap₂, ◌∙◌, subst, subst�
 use mathlib.Core.Logic.{◌≢◌, ◌⊎◌, inl, inr, ⊎_elim}
 use mathlib.Core.Bool.{Bool, true, false, cond, not, ◌&&◌, ◌||◌}
 use mathlib.Core.List.{List}
+use Rattle.std.proofs.Common.{Ok}
 use Prim.Native.Nat.{ℕ, suc, ◌+◌, ◌-◌, ◌^◌, ◌≤◌, ◌<◌}
 use native.Mathlib.Decide.{ℕ_discrete, dec_le}
 use native.Mathlib.Numerals.{add-one}
@@ -22,11 +23,9 @@ use Rattle.esterel.specs.Reachability.{next_r, after_rounds, Reached, reach}
 use Rattle.esterel.proofs.Codes.{contains_none, contains_left, contains_right, join_cases, contains_minus_zero, contains_through_try, contains_through_try⁺}
 use Rattle.esterel.proofs.Reachability.{d_union, d_mono, round_adds, reach_unique, after_rounds_pauses, after_rounds_grows}
 use Rattle.table.specs.Reading.{deepest}
-use Rattle.table.specs.inner.Places.{Placed, statement_at, statement_of, Loaded}
-use Rattle.table.proofs.Places.{next_within}
-use Rattle.reach.specs.declared.Analysed.TheVariants.{Rest}
+use Rattle.table.specs.inner.Places.{Placed, statement_at, statement_of}
 use Rattle.reach.specs.declared.summary.Summary.{Summary}
-use Rattle.reach.specs.inner.CodeSets.{codes_of, followed_by}
+use Rattle.reach.specs.inner.CodeSets.{followed_by}
 use Rattle.reach.specs.inner.Summaries.{resumed_from, LabelsFrom, Summarised}
 use Rattle.reach.specs.inner.Rounds.{Reaches}
 use Rattle.reach.proofs.Summing.{d_followed, d_looped}
@@ -98,7 +97,7 @@ below_width w m x b h = go (dec_le w x)
     go (yes l) = clash h (past_width w m x b l)
     go (no f) = omega arith
 
-module _ (p : Placed) (found : Summary) (first kept : List ℕ) (h : Summarised p found first kept) (w : found.pauses < 2 ^ 64) where
+module _ (p : Placed) (found : Summary) (first kept : List Codes) (h : Summarised p found first kept) (w : found.pauses < 2 ^ 64) where
   abbrev P : Statement
   P = p.statement
 
@@ -161,16 +160,16 @@ pub record Going (p : Statement) (labels set rounds : ℕ) : Type 0 where
 pub few_rounds : (p : Statement) (labels set rounds : ℕ) → Going p labels set rounds → rounds ≤ 64
 few_rounds p labels set rounds g = let c = g.counted in let w = count_width 64 set in omega arith
 
-pub none_yet : (p : Statement) (found : Summary) → codes_of found.start ≡ s p → Going p found.start.labels 0 0
-unfolding after_rounds codes_of codes.labels
-none_yet p found e = record {
+pub none_yet : (p : Statement) (K : Codes) (labels : ℕ) → labels ≡ K.pausing → K ≡ s p → Going p labels 0 0
+unfolding after_rounds codes.labels
+none_yet p K labels l e = record {
   reached = refl;
-  labelled = ap (λ (K : Codes). K.pausing) e ∙ sym (ap (λ (m : ℕ). codes.labels (s p) union m) (none_resumed p) ∙ union_empty (codes.labels (s p)));
+  labelled = l ∙ ap (λ (D : Codes). D.pausing) e ∙ sym (ap (λ (m : ℕ). codes.labels (s p) union m) (none_resumed p) ∙ union_empty (codes.labels (s p)));
   added = λ j l. absurd (omega arith);
   counted = omega arith;
 }
 
-module _ (p : Placed) (found : Summary) (first kept : List ℕ) (h : Summarised p found first kept) (w : found.pauses < 2 ^ 64)
+module _ (p : Placed) (found : Summary) (first kept : List Codes) (h : Summarised p found first kept) (w : found.pauses < 2 ^ 64)
     (labels set rounds : ℕ) (g : Going p.statement labels set rounds) where
   abbrev next : ℕ
   next = bit_and found.pauses labels
@@ -227,9 +226,9 @@ module _ (p : Placed) (found : Summary) (first kept : List ℕ) (h : Summarised 
         let f = count_within 64 next found.pauses (subst (Within next) (sym h.labels) next_pauses) in
         omega arith
 
-pub rests : (nodes : List ℕ) (found : Summary) (first kept : List ℕ) → (h : Summarised (statement_at deepest nodes 0) found first kept) → (w : found.pauses < 2 ^ 64)
+pub rests : (nodes : List ℕ) (found : Summary) (first kept : List Codes) → (h : Summarised (statement_at deepest nodes 0) found first kept) → (w : found.pauses < 2 ^ 64)
     → (labels set rounds : ℕ) → (g : Going (statement_of nodes) labels set rounds) → bit_and found.pauses labels ≡ set
-    → Reaches nodes (Rest (record { start = found.start; set = set; rounds = rounds + 1 }))
+    → Reaches nodes (Ok (record { start = found.start; set = set; rounds = rounds + 1 }))
 rests nodes found first kept h w labels set rounds g e = record {
   found = record { start = found.start; set = set; rounds = rounds + 1 };
   rest = refl;
@@ -240,7 +239,3 @@ rests nodes found first kept h w labels set rounds g e = record {
   where
     unique : reach (statement_of nodes) ≡ record { set = after_rounds (statement_of nodes) rounds; rounds = suc rounds }
     unique = reach_unique (statement_of nodes) rounds (sym (next_is (statement_at deepest nodes 0) found first kept h w labels set rounds g) ∙ e ∙ g.reached) g.added
-
--- the place after the statement is one of the nodes', or the first past them: no node was refused
-pub not_refused : (nodes : List ℕ) (found : Summary) (first kept : List ℕ) → Loaded nodes → Summarised (statement_at deepest nodes 0) found first kept → found.next ≡ 1025 → ⊥
-not_refused nodes found first kept l h e = omega (arith, next_within nodes deepest 0 (omega arith), l.all, h.next)

@@ -14,8 +14,8 @@ use Rattle.esterel.specs.Codes.{Codes, none, just_ended, just_at, join, minus_ze
 use Rattle.esterel.proofs.Codes.{join_none, none_join, none_through, followed, s_sequence, d_sequence, d_loop}
 use Rattle.table.specs.inner.Places.{Placed, placed}
 use Rattle.reach.specs.declared.summary.Summary.{Summary}
-use Rattle.reach.specs.inner.CodeSets.{codes_of, followed_by}
-use Rattle.reach.specs.inner.Summaries.{resumed_from, Changed, LoweredEach, Follows, Outline, outline, outline_of, sequence_outline, Summarised}
+use Rattle.reach.specs.inner.CodeSets.{followed_by}
+use Rattle.reach.specs.inner.Summaries.{resumed_from, Changed, LoweredEach, Follows, summary, in_turn, Summarised}
 use Rattle.reach.proofs.CodeSets.{goes_on, stops}
 
 none_followed : (S : Codes) → followed_by none S ≡ none
@@ -127,15 +127,14 @@ ends_through true A K₀ e = ap (λ (K : Codes). (through_try K).ends) e
 ends_through false A K₀ e = refl
 
 -- ---- Kinds without children
-module _ (found : Summary) (kept : List ℕ) (p : Statement) (at : ℕ) where
+module _ (found : Summary) (kept : List Codes) (p : Statement) (at : ℕ) where
   -- no pause
-  pub sum_none : pauses p ≡ 0 → {K : Codes} → s p ≡ K → outline_of found ≡ outline K 0 0 at → Summarised (placed p at) found kept kept
-  unfolding outline_of
+  pub sum_none : pauses p ≡ 0 → {K : Codes} → s p ≡ K → found ≡ summary K 0 0 at → Summarised (placed p at) found kept kept
   sum_none z k e = record {
-    start = ap (λ (o : Outline). o.start) e ∙ sym k;
-    labels = ap (λ (o : Outline). o.labels) e ∙ sym z;
-    ending = λ l b. ap (λ (o : Outline). has o.ending l) e ∙ has_empty l ∙ sym (ap (λ (y : Bool). y && (d (only l) p).ends) (no_label l));
-    next = ap (λ (o : Outline). o.next) e;
+    start = ap (λ (o : Summary). o.start) e ∙ sym k;
+    labels = ap (λ (o : Summary). o.pauses) e ∙ sym z;
+    ending = λ l b. ap (λ (o : Summary). has o.ending l) e ∙ has_empty l ∙ sym (ap (λ (y : Bool). y && (d (only l) p).ends) (no_label l));
+    next = ap (λ (o : Summary). o.next) e;
     size = refl;
     resumed = λ l b. sym (ap (λ (y : Bool). cond y (d (only l) p) (resumed_from kept l)) (no_label l));
   }
@@ -150,14 +149,14 @@ only_swap l m = go (ℕ_discrete l m)
     go (yes e) = rw e
     go (no n) = has_only_other l m n ∙ sym (has_only_other m l (λ e. n (sym e)))
 
-pub sum_pause : (found : Summary) (kept kept' : List ℕ) (m at : ℕ) → (outline_of found ≡ outline (just_at m) (only m) (only m) at) × Changed (only m) (λ K. just_ended) kept kept'
+pub sum_pause : (found : Summary) (kept kept' : List Codes) (m at : ℕ) → (found ≡ summary (just_at m) (only m) (only m) at) × Changed (only m) (λ K. just_ended) kept kept'
     → Summarised (placed (pause m) at) found kept kept'
-unfolding outline_of s d pauses just_ended
+unfolding s d pauses just_ended
 sum_pause found kept kept' m at h = record {
-  start = ap (λ (o : Outline). o.start) h.0;
-  labels = ap (λ (o : Outline). o.labels) h.0;
-  ending = λ l b. ap (λ (o : Outline). has o.ending l) h.0 ∙ ends (has (only m) l) ∙ ap (λ (z : Bool). has (only m) l && (cond z just_ended none).ends) (sym (only_swap l m));
-  next = ap (λ (o : Outline). o.next) h.0;
+  start = ap (λ (o : Summary). o.start) h.0;
+  labels = ap (λ (o : Summary). o.pauses) h.0;
+  ending = λ l b. ap (λ (o : Summary). has o.ending l) h.0 ∙ ends (has (only m) l) ∙ ap (λ (z : Bool). has (only m) l && (cond z just_ended none).ends) (sym (only_swap l m));
+  next = ap (λ (o : Summary). o.next) h.0;
   size = h.1.size;
   resumed = λ l b. h.1.each l b ∙ codes (has (only m) l) (resumed_from kept l) ∙ ap (λ (z : Bool). cond (has (only m) l) (cond z just_ended none) (resumed_from kept l)) (sym (only_swap l m));
 }
@@ -171,7 +170,7 @@ sum_pause found kept kept' m at h = record {
     codes false K = refl
 
 -- ---- Two children, one after the other among the nodes
-module _ {p q : Placed} {P Q : Summary} {kept one two : List ℕ} (h : Summarised p P kept one) (g : Summarised q Q one two)
+module _ {p q : Placed} {P Q : Summary} {kept one two : List Codes} (h : Summarised p P kept one) (g : Summarised q Q one two)
     (apart : Apart (pauses p.statement) (pauses q.statement)) where
   abbrev A : ℕ → Codes
   A l = d (only l) p.statement
@@ -199,17 +198,16 @@ module _ {p q : Placed} {P Q : Summary} {kept one two : List ℕ} (h : Summarise
       → s (f p.statement q.statement) ≡ K
       → ((l : ℕ) → d (only l) (f p.statement q.statement) ≡ join (A l) (B l))
       → pauses (f p.statement q.statement) ≡ pauses p.statement union pauses q.statement
-      → outline_of found ≡ outline K (P.pauses union Q.pauses) (P.ending union Q.ending) Q.next
+      → found ≡ summary K (P.pauses union Q.pauses) (P.ending union Q.ending) Q.next
       → Summarised (placed (f p.statement q.statement) q.next) found kept two
-  unfolding outline_of
   sum_beside found f k c n e = record {
-    start = ap (λ (o : Outline). o.start) e ∙ sym k;
-    labels = ap (λ (o : Outline). o.labels) e ∙ both_labels ∙ sym n;
+    start = ap (λ (o : Summary). o.start) e ∙ sym k;
+    labels = ap (λ (o : Summary). o.pauses) e ∙ both_labels ∙ sym n;
     ending = λ l b.
-        ap (λ (o : Outline). has o.ending l) e ∙ has_union P.ending Q.ending l ∙ ap₂ ◌||◌ (h.ending l b) (g.ending l b)
+        ap (λ (o : Summary). has o.ending l) e ∙ has_union P.ending Q.ending l ∙ ap₂ ◌||◌ (h.ending l b) (g.ending l b)
         ∙ ends_two (in_a l) (in_b l) (A l) (B l) (apart l) (d_outside l p.statement) (d_outside l q.statement)
         ∙ sym (ap₂ (λ (z : Bool) (D : Codes). z && D.ends) (in_both l) (c l));
-    next = ap (λ (o : Outline). o.next) e ∙ g.next;
+    next = ap (λ (o : Summary). o.next) e ∙ g.next;
     size = both_size;
     resumed = λ l b. both_kept l b ∙ sym (ap₂ (λ (z : Bool) (D : Codes). cond z D (resumed_from kept l)) (in_both l) (c l));
   }
@@ -217,19 +215,19 @@ module _ {p q : Placed} {P Q : Summary} {kept one two : List ℕ} (h : Summarise
       in_both : (l : ℕ) → has (pauses (f p.statement q.statement)) l ≡ (in_a l || in_b l)
       in_both l = ap (λ (m : ℕ). has m l) n ∙ has_union (pauses p.statement) (pauses q.statement) l
 
-  pub sum_sequence : (found : Summary) (three : List ℕ)
-      → (outline_of found ≡ sequence_outline (outline_of P) (outline_of Q)) × Follows P.ending (codes_of Q.start) two three
+  pub sum_sequence : (found : Summary) (three : List Codes)
+      → (found ≡ in_turn P Q) × Follows P.ending Q.start two three
       → Summarised (placed (sequence p.statement q.statement) q.next) found kept three
-  unfolding outline_of sequence_outline pauses
+  unfolding in_turn pauses
   sum_sequence found three (e, c) = record {
-    start = ap (λ (o : Outline). o.start) e ∙ ap₂ followed_by h.start g.start ∙ sym (s_followed p.statement q.statement);
-    labels = ap (λ (o : Outline). o.labels) e ∙ both_labels;
+    start = ap (λ (o : Summary). o.start) e ∙ ap₂ followed_by h.start g.start ∙ sym (s_followed p.statement q.statement);
+    labels = ap (λ (o : Summary). o.pauses) e ∙ both_labels;
     ending = λ l b.
-        ap (λ (o : Outline). has o.ending l) e ∙ has_union (cond (codes_of Q.start).ends P.ending 0) Q.ending l
+        ap (λ (o : Summary). has o.ending l) e ∙ has_union (cond Q.start.ends P.ending 0) Q.ending l
         ∙ ap₂ ◌||◌ (first_ends l b) (g.ending l b)
         ∙ ends_two (in_a l) (in_b l) (followed_by (A l) S) (B l) (apart l) (λ z. ap (λ (K : Codes). followed_by K S) (d_outside l p.statement z) ∙ none_followed S) (d_outside l q.statement)
         ∙ sym (ap₂ (λ (z : Bool) (D : Codes). z && D.ends) (in_both l) (d_followed (only l) p.statement q.statement));
-    next = ap (λ (o : Outline). o.next) e ∙ g.next;
+    next = ap (λ (o : Summary). o.next) e ∙ g.next;
     size = c.size ∙ both_size;
     resumed = λ l b.
         kept_sequence (in_a l) (in_b l) (A l) (B l) S (resumed_from kept l) (apart l) (d_outside l p.statement) (d_outside l q.statement)
@@ -243,29 +241,29 @@ module _ {p q : Placed} {P Q : Summary} {kept one two : List ℕ} (h : Summarise
       in_both : (l : ℕ) → has (pauses p.statement union pauses q.statement) l ≡ (in_a l || in_b l)
       in_both l = has_union (pauses p.statement) (pauses q.statement) l
 
-      first_ends : (l : ℕ) → l < 64 → has (cond (codes_of Q.start).ends P.ending 0) l ≡ (in_a l && (followed_by (A l) S).ends)
+      first_ends : (l : ℕ) → l < 64 → has (cond Q.start.ends P.ending 0) l ≡ (in_a l && (followed_by (A l) S).ends)
       first_ends l b =
-          has_if (codes_of Q.start).ends P.ending l
+          has_if Q.start.ends P.ending l
           ∙ ap₂ ◌&&◌ (ap (λ (K : Codes). K.ends) g.start) (h.ending l b) ∙ ends_followed (in_a l) (A l) S
 
 -- ---- One child
-module _ {p : Placed} {P : Summary} {kept one : List ℕ} (h : Summarised p P kept one) where
+module _ {p : Placed} {P : Summary} {kept one : List Codes} (h : Summarised p P kept one) where
   pub sum_signal : (n : ℕ) → Summarised (placed (signal n p.statement) p.next) P kept one
   unfolding s d pauses
   sum_signal n = record { start = h.start; labels = h.labels; ending = h.ending; next = h.next; size = h.size; resumed = h.resumed }
 
-  pub sum_loop : (found : Summary) (two : List ℕ)
-      → (outline_of found ≡ outline (minus_zero (codes_of P.start)) P.pauses 0 P.next) × Follows P.ending (minus_zero (codes_of P.start)) one two
+  pub sum_loop : (found : Summary) (two : List Codes)
+      → (found ≡ summary (minus_zero P.start) P.pauses 0 P.next) × Follows P.ending (minus_zero P.start) one two
       → Summarised (placed (loop p.statement) p.next) found kept two
-  unfolding outline_of s pauses
+  unfolding s pauses
   sum_loop found two (e, c) = record {
-    start = ap (λ (o : Outline). o.start) e ∙ ap minus_zero h.start;
-    labels = ap (λ (o : Outline). o.labels) e ∙ h.labels;
+    start = ap (λ (o : Summary). o.start) e ∙ ap minus_zero h.start;
+    labels = ap (λ (o : Summary). o.pauses) e ∙ h.labels;
     ending = λ l b.
-        ap (λ (o : Outline). has o.ending l) e ∙ has_empty l
+        ap (λ (o : Summary). has o.ending l) e ∙ has_empty l
         ∙ sym (ap (λ (z : Bool). has (pauses p.statement) l && z) (ap (λ (D : Codes). D.ends) (d_looped (only l) p.statement) ∙ never_ends (d (only l) p.statement) (s p.statement))
         ∙ and-false (has (pauses p.statement) l));
-    next = ap (λ (o : Outline). o.next) e ∙ h.next;
+    next = ap (λ (o : Summary). o.next) e ∙ h.next;
     size = c.size ∙ h.size;
     resumed = λ l b.
         kept_followed (has (pauses p.statement) l) (d (only l) p.statement) (minus_zero (s p.statement)) (resumed_from kept l) (h.ending l b) (h.resumed l b)
@@ -273,15 +271,15 @@ module _ {p : Placed} {P : Summary} {kept one : List ℕ} (h : Summarised p P ke
         ∙ sym (ap (λ (D : Codes). cond (has (pauses p.statement) l) D (resumed_from kept l)) (d_looped (only l) p.statement));
   }
 
-  pub sum_try : (found : Summary) (two : List ℕ)
-      → (outline_of found ≡ outline (through_try (codes_of P.start)) P.pauses found.ending P.next) × LoweredEach P.pauses one two found.ending
+  pub sum_try : (found : Summary) (two : List Codes)
+      → (found ≡ summary (through_try P.start) P.pauses found.ending P.next) × LoweredEach P.pauses one two found.ending
       → Summarised (placed (try p.statement) p.next) found kept two
-  unfolding outline_of s d pauses
+  unfolding s d pauses
   sum_try found two (e, c) = record {
-    start = ap (λ (o : Outline). o.start) e ∙ ap through_try h.start;
-    labels = ap (λ (o : Outline). o.labels) e ∙ h.labels;
+    start = ap (λ (o : Summary). o.start) e ∙ ap through_try h.start;
+    labels = ap (λ (o : Summary). o.pauses) e ∙ h.labels;
     ending = λ l b. c.ends l b ∙ ap (λ (m : ℕ). has m l && (through_try (resumed_from one l)).ends) h.labels ∙ ends_through (has (pauses p.statement) l) (d (only l) p.statement) (resumed_from kept l) (h.resumed l b);
-    next = ap (λ (o : Outline). o.next) e ∙ h.next;
+    next = ap (λ (o : Summary). o.next) e ∙ h.next;
     size = c.changed.size ∙ h.size;
     resumed = λ l b.
         kept_through (has (pauses p.statement) l) (d (only l) p.statement) (resumed_from kept l) (h.resumed l b)

@@ -1,16 +1,15 @@
 -- What reach answers: check's refusal, or s, R and the number of rounds of the statement that the table holds.
-use Rattle.std.specs.Prelude.{cond, List, [], ◌∷◌, ℕ}
+use Rattle.std.specs.Prelude.{cond, Result, List, [], ◌∷◌, ℕ}
 use Rattle.esterel.specs.Codes.{labels, s}
 use Rattle.esterel.specs.Reachability as rounds
-use Rattle.table.specs.Outcomes.{Outcome, refusal, values}
+use Rattle.table.specs.Outcomes.{Outcome, refusal, values, outcome}
 use Rattle.table.specs.Reading.{Table, refused, holds, table_of}
+use Rattle.table.specs.declared.Refusal.{Refusal}
 use Rattle.reach.specs.declared.Reached.{Reached}
-use Rattle.reach.specs.declared.Reached.TheVariants.{Refused, Found}
 
 -- what is said of an answer of reach, case by case: the refusal; or whether s has 0, as 1 or 0, the labels of s, R, the rounds
-unfoldable pub reached_outcome : Reached → Outcome
-reached_outcome (Refused w) = refusal w
-reached_outcome (Found ends labels set rounds) = values (cond ends 1 0 ∷ labels ∷ set ∷ rounds ∷ [])
+abbrev pub reached_outcome : Result Reached Refusal → Outcome
+reached_outcome = outcome (λ r. cond r.ends 1 0 ∷ r.labels ∷ r.set ∷ r.rounds ∷ [])
 
 -- "Accepted: s (whether it has 0, and its labels as a set; a whole table has no higher code), R, rounds"
 unfoldable pub reach_in : Table → Outcome

@@ -15,8 +15,8 @@ use Rattle.esterel.specs.Trimming.{trimmed}
 use Rattle.esterel.proofs.Validity.{valid_trimmed}
 use Rattle.esterel.proofs.Growth.{size_trimmed}
 use Rattle.esterel.proofs.Sizes.{size_positive}
-use Rattle.table.specs.declared.Checked.{Checked}
-use Rattle.table.specs.declared.Checked.TheVariants as checked
+use Rattle.std.specs.Prelude.{Result, Ok, Err}
+use Rattle.table.specs.declared.Refusal.{Refusal}
 use Rattle.table.specs.Bits.{Below}
 use Rattle.table.specs.Outcomes.{Outcome, refusal, values, number_of, buffer_after}
 use Rattle.table.specs.Reading.{Table, refused, holds, table_of, checked_outcome, check_in, check_of, deepest}
@@ -27,40 +27,25 @@ use Rattle.table.proofs.Accepted.{accepted}
 use Rattle.table.proofs.Loading.{load_refuses, load_holds, load_statement, load_loaded}
 use Rattle.table.proofs.Refusals.{table_refusals, zero_accepted}
 use Rattle.table.proofs.RoundTrip.{below_nodes, valid_ranged, read_written}
-use Rattle.trim.specs.declared.work.Laid.{Laid}
-use Rattle.trim.specs.declared.work.Laid.TheVariants as laid_as
-use Rattle.trim.specs.declared.work.Part.{Part}
-use Rattle.trim.specs.declared.Trimmed.{Trimmed}
-use Rattle.trim.specs.declared.Trimmed.TheVariants.{Refused}
+use Rattle.trim.specs.declared.Written.{Written}
 use Rattle.trim.specs.Answers.{trimmed_outcome, values_for, trim_for, trim_in, buffer_in, trim_of, buffer_of}
-use Rattle.trim.specs.inner.Root.{Ends, LaidOut, EndFits, Finished}
-
--- ---- where the trimmed statement stands
-
-pub never_laid : {q : Statement} {laid : Laid} {work : List ℕ} → LaidOut q laid work → laid ≡ laid_as.Refused → ⊥
-never_laid L e = let z : ◌≡◌ {A = ℕ} 0 1 = cc (sym e ∙ L.at) in omega arith
-
-pub laid_ends : {q : Statement} {laid : Laid} {work : List ℕ} → LaidOut q laid work → {part : Part} → laid ≡ laid_as.At part → Ends q part work
-laid_ends {q} {laid} {work} L e = subst (λ (p : Part). Ends q p work) (same (sym L.at ∙ e)) L.ends
-  where
-    same : {f g : Part} → laid_as.At f ≡ laid_as.At g → f ≡ g
-    same e = cc
+use Rattle.trim.specs.inner.Parts.{Laid}
+use Rattle.trim.specs.inner.Root.{Ends, EndFits, Finished}
 
 -- ---- the answer
 
-module _ (t old new : List ℕ) (c : Checked) (h : (checked_outcome c ≡ check_of t) × (new ≡ loaded_of t old)) (out : List ℕ) where
-  pub trim_refused : (w x : ℕ) → c ≡ checked.Refused w → x ≡ number_of (checked_outcome c)
-      → (trimmed_outcome (Refused x) ≡ trim_of t (length out)) × (out ≡ buffer_of t out)
+module _ (t old new : List ℕ) (c : Result ℕ Refusal) (h : (checked_outcome c ≡ check_of t) × (new ≡ loaded_of t old)) (out : List ℕ) where
+  pub trim_refused : (w : Refusal) → c ≡ Err w → (trimmed_outcome (Err w) ≡ trim_of t (length out)) × (out ≡ buffer_of t out)
   unfolding trim_of buffer_of trim_in buffer_in trimmed_outcome
-  trim_refused w x e f =
-      let q = load_refuses t old new c h w x e f in
+  trim_refused w e =
+      let q = load_refuses t old new c h w e in
       (sym (ap (λ (T : Table). trim_in T (length out)) q), sym (ap (λ (T : Table). buffer_in T out) q))
 
-  module _ (n : ℕ) (e : c ≡ checked.Accepted n) where
+  module _ (n : ℕ) (e : c ≡ Ok n) where
     pub some_node : 1 ≤ n
     some_node = let (p, held) = load_holds t old new c h n e in (accepted t n p held).header.some
 
-    module _ (part : Part) (work : List ℕ) (E : Ends (trimmed (statement_of new)) part work) where
+    module _ (part : Laid) (work : List ℕ) (E : Ends (trimmed (statement_of new)) part work) where
       pub end_fields : length old ≡ 1024 → Known old → length work ≡ 1024 → EndFits part work
       end_fields k known l =
           let q : Statement = trimmed (statement_of new) in
@@ -76,7 +61,7 @@ module _ (t old new : List ℕ) (c : Checked) (h : (checked_outcome c ≡ check_
             fields = λ held. subst (Below 1024) (sym (E.stands held)) (below_nodes q (valid_ranged 0 q valid));
           }
 
-      pub trim_done : (r : Trimmed) (out' : List ℕ) → Finished n work part out r out' → (trimmed_outcome r ≡ trim_of t (length out)) × (out' ≡ buffer_of t out)
+      pub trim_done : (r : Result Written Refusal) (out' : List ℕ) → Finished n work part out r out' → (trimmed_outcome r ≡ trim_of t (length out)) × (out' ≡ buffer_of t out)
       unfolding Finished trim_of buffer_of trim_in buffer_in
       trim_done r out' F =
           let (p, held) = load_holds t old new c h n e in

@@ -21,12 +21,12 @@ use Rattle.table.specs.Reading.{operand_of}
 use Rattle.table.specs.inner.Places.{Placed, placed, place_kind, statement_at}
 use Rattle.table.specs.Writing.{nodes, node}
 use Rattle.trim.specs.declared.descent.Around.{Around}
-use Rattle.trim.specs.declared.work.Part.{Part}
 use Rattle.trim.specs.inner.Levels.{level_out, trimmed_in, started_if, in_guard, in_else, in_try, places_in, wrap_if, guarded_if}
-use Rattle.trim.specs.inner.Parts.{nothing_at, Fitting, Leaf, ExitReady, LeafPut, Wrapped, PartsJoined, branch_if, present_if, ElseClosed, PresentClosed, Caught, Trimmable, Done}
+use Rattle.trim.specs.inner.Parts.{Laid, nothing_at, Fitting, Leaf, ExitReady, LeafPut, Wrapped, PartsJoined, branch_if, present_if, ElseClosed, PresentClosed, Caught, Trimmable, Done}
 use Rattle.trim.proofs.Parts.{has_signal, joins_sequence}
 use Rattle.trim.proofs.Trimming.{places_same, places_low, trimmed_pause, trimmed_gotopause, trimmed_emit, trimmed_exit, trimmed_signal, trimmed_sequence, trimmed_parallel, trimmed_loop, trimmed_present, trimmed_resumed, trimmed_try}
-use Rattle.trim.specs.inner.Notes.{live, live_of, second_of, ends_of, kept_of}
+use Rattle.trim.specs.inner.Notes.{live, no_note, ends_of}
+use Rattle.trim.specs.declared.noted.Note.{Note}
 use Rattle.table.proofs.Places.{Node, placed_node, placed_none}
 use Rattle.trim.proofs.Walk.{next_after}
 use Rattle.trim.proofs.Notes.{noted_node, note_live}
@@ -35,14 +35,14 @@ use Rattle.trim.proofs.Leaving.{ends_signal, ends_sequence, ends_parallel, ends_
 use Rattle.trim.proofs.Steps.{NotedOne, NotedTwo, note_ends, note_place, note_kept, one_signal, one_loop, one_try, two_present, two_sequence, two_parallel, trimmed_none, trimmed_dead, trimmed_leaf, trimmed_one, trimmed_two, trimmed_branches}
 use Rattle.trim.proofs.Steps.{one_ready, second_ready, join_ready, join_room, else_room, branch_ready, present_room}
 
-module _ {R : ℕ} {xs notes : List ℕ} {at left : ℕ} {a : Around} {places work : List ℕ} {to : ℕ} (N : Trimmable R xs notes at left a places work to) where
+module _ {R : ℕ} {xs : List ℕ} {notes : List Note} {at left : ℕ} {a : Around} {places work : List ℕ} {to : ℕ} (N : Trimmable R xs notes at left a places work to) where
   abbrev operand : ℕ
   operand = operand_of (get_or xs at 0)
 
   abbrev first : Placed
   first = statement_at (left - 1) xs (at + 1)
 
-  abbrev Got : Part → List ℕ → List ℕ → Type 0
+  abbrev Got : Laid → List ℕ → List ℕ → Type 0
   Got r places' work' = Done R (statement_at left xs at) at left a places work to r places' work'
 
   -- ---- no node, or no child
@@ -55,12 +55,12 @@ module _ {R : ℕ} {xs notes : List ℕ} {at left : ℕ} {a : Around} {places wo
   at_nothing n = rw (placed_node n) (trimmed_none R at left a places work to (at + 1) (omega arith))
 
   -- the test before the decision: what may be left, by the note
-  note_says : {k : ℕ} → Node left xs at k → live_of (get_or notes at 0) ≡ live R (statement_at left xs at).statement
-  note_says {k} n = ap live_of (noted_node R notes n N.noted).0 ∙ note_live R k (statement_at left xs at).statement first
+  note_says : {k : ℕ} → Node left xs at k → (get_or notes at no_note).live ≡ live R (statement_at left xs at).statement
+  note_says {k} n = ap (λ (n : Note). n.live) (noted_node R notes n N.noted).0 ∙ note_live R k (statement_at left xs at).statement first
 
-  pub at_dead : {k : ℕ} → Node left xs at k → {z : Bool} → z ≡ (a.started || live_of (get_or notes at 0)) → not z ≡ true → Got (nothing_at to) places work
+  pub at_dead : {k : ℕ} → Node left xs at k → {z : Bool} → z ≡ (a.started || (get_or notes at no_note).live) → not z ≡ true → Got (nothing_at to) places work
   at_dead n {z} e h =
-      let m = or_neither a.started (live_of (get_or notes at 0)) (sym e ∙ not_true z (λ y. clash h (ap not y))) in
+      let m = or_neither a.started ((get_or notes at no_note).live) (sym e ∙ not_true z (λ y. clash h (ap not y))) in
       let s = next_after n in
       trimmed_dead R at left a places work to (statement_at left xs at) (omega arith) m.0 (sym (note_says n) ∙ m.1)
 
@@ -68,7 +68,7 @@ module _ {R : ℕ} {xs notes : List ℕ} {at left : ℕ} {a : Around} {places wo
   abbrev pub Stays : Type 0
   Stays = (a.started || live R (statement_at left xs at).statement) ≡ true
 
-  pub stays_here : {k : ℕ} → Node left xs at k → {z : Bool} → z ≡ (a.started || live_of (get_or notes at 0)) → not z ≡ false → Stays
+  pub stays_here : {k : ℕ} → Node left xs at k → {z : Bool} → z ≡ (a.started || (get_or notes at no_note).live) → not z ≡ false → Stays
   stays_here n {z} e h = ap (λ (y : Bool). a.started || y) (sym (note_says n)) ∙ sym e ∙ not_false z h
 
   pub leaf_room : {k : ℕ} → Node left xs at k → (1 ≤ to) × (to ≤ 4096)
@@ -107,21 +107,21 @@ module _ {R : ℕ} {xs notes : List ℕ} {at left : ℕ} {a : Around} {places wo
   started_here : (t : Statement) (n : ℕ) → statement_at left xs at ≡ placed t n → pauses t ≡ 0 → Stays → a.started ≡ true
   started_here t n e z h = sym (or_false a.started) ∙ ap (λ (y : Bool). a.started || y) (sym (ap (λ (p : Placed). live R p.statement) e ∙ live_none R t z)) ∙ h
 
-  pub at_pause : Node left xs at 1 → Stays → {o : ℕ} → o ≡ operand → {r : Part} {work' : List ℕ} → LeafPut (node 1 o) 0 work to r work' → Got r places work'
+  pub at_pause : Node left xs at 1 → Stays → {o : ℕ} → o ≡ operand → {r : Laid} {work' : List ℕ} → LeafPut (node 1 o) 0 work to r work' → Got r places work'
   unfolding place_kind kind_of kinds nodes is_nothing depth names
   at_pause n h e {r} {work'} P =
       let kept : (a.started || has R operand) ≡ true = ap (λ (y : Bool). a.started || y) (sym (ap (λ (p : Placed). live R p.statement) (placed_node n) ∙ live_pause R operand)) ∙ h in
       rw (placed_node n) (trimmed_leaf R at left a places work to (pause operand) (pause operand) (node 1 operand) 0 r work' n.some
       (trimmed_pause R places a operand ∙ ap (λ (z : Bool). cond z (pause operand) nothing) kept) (leaf 1 0 refl refl refl has_empty) (rw e at P))
 
-  pub at_gotopause : Node left xs at 2 → Stays → {o : ℕ} → o ≡ operand → {r : Part} {work' : List ℕ} → LeafPut (node 2 o) 0 work to r work' → Got r places work'
+  pub at_gotopause : Node left xs at 2 → Stays → {o : ℕ} → o ≡ operand → {r : Laid} {work' : List ℕ} → LeafPut (node 2 o) 0 work to r work' → Got r places work'
   unfolding place_kind kind_of kinds nodes is_nothing depth names pauses
   at_gotopause n h e {r} {work'} P =
       rw (placed_node n) (trimmed_leaf R at left a places work to (gotopause operand) (gotopause operand) (node 2 operand) 0 r work' n.some
       (trimmed_gotopause R places a operand ∙ ap (λ (z : Bool). cond z (gotopause operand) nothing) (started_here (gotopause operand) (at + 1) (placed_node n) refl h))
       (leaf 2 0 refl refl refl has_empty) (rw e at P))
 
-  pub at_emit : Node left xs at 3 → Stays → {o : ℕ} → o ≡ operand → {own : ℕ} {r : Part} {work' : List ℕ} → own ≡ only o % 2 ^ 64
+  pub at_emit : Node left xs at 3 → Stays → {o : ℕ} → o ≡ operand → {own : ℕ} {r : Laid} {work' : List ℕ} → own ≡ only o % 2 ^ 64
       → LeafPut (node 3 o) own work to r work' → Got r places work'
   unfolding place_kind kind_of kinds nodes is_nothing depth names pauses
   at_emit n h e {own} {r} {work'} k P =
@@ -169,7 +169,7 @@ module _ {R : ℕ} {xs notes : List ℕ} {at left : ℕ} {a : Around} {places wo
     unfolding kind_of kinds row_of
     level_fits = rw out (record { kind_in = omega arith; least = exit_caught n started_exit; most = exit_most })
 
-    pub at_exit : {r : Part} {work' : List ℕ} → LeafPut (node 4 l) 0 work to r work' → Got r places work'
+    pub at_exit : {r : Laid} {work' : List ℕ} → LeafPut (node 4 l) 0 work to r work' → Got r places work'
     unfolding place_kind kind_of kinds nodes is_nothing depth names
     at_exit {r} {work'} P =
         rw (placed_node n) (trimmed_leaf R at left a places work to (exit operand) (exit l) (node 4 l) 0 r work' n.some
@@ -187,21 +187,21 @@ module _ {R : ℕ} {xs notes : List ℕ} {at left : ℕ} {a : Around} {places wo
   pub the_try : Node left xs at 10 → NotedOne R xs notes at left 10 try (suc a.tries)
   the_try n = one_try R xs notes at left a.tries N.valid N.noted n
 
-  pub at_signal : Node left xs at 5 → {o : ℕ} → o ≡ operand → {z : Bool} {v r : Part} {places₁ work₁ work₂ : List ℕ}
+  pub at_signal : Node left xs at 5 → {o : ℕ} → o ≡ operand → {z : Bool} {v r : Laid} {places₁ work₁ work₂ : List ℕ}
       → Done R first (at + 1) (left - 1) a places work to v places₁ work₁
-      → z ≡ has v.named o → Wrapped (node 5 o) z work₁ to v r work₂ → Got r places₁ work₂
+      → z ≡ has v.named o → Wrapped (node 5 o) z work₁ v r work₂ → Got r places₁ work₂
   unfolding nodes is_nothing depth names wrap_if trim_signal
   at_signal n {o} same {z} {v} {r} {places₁} {work₁} {work₂} P k W' =
       let e : z ≡ has v.named operand = k ∙ ap (has v.named) same in
-      let W : Wrapped (node 5 operand) z work₁ to v r work₂ = rw same at W' in
+      let W : Wrapped (node 5 operand) z work₁ v r work₂ = rw same at W' in
       rw (the_signal n).is
       (trimmed_one R at left a places work to n.some N.to_in (signal operand) (node 5 operand) z (signal operand first.statement) first a places places₁ work₁ work₂ v r
       (trimmed_signal R places a operand first.statement
       ∙ ap (λ (b : Bool). cond b (signal operand (trimmed_in R places a first.statement)) (trimmed_in R places a first.statement)) (sym (e ∙ P.made.names_are operand)))
       P.same refl (record { nodes_are = λ p. refl; some = λ p. refl; deep = λ p. refl; names_are = λ S p. refl }) P W)
 
-  pub at_loop : Node left xs at 9 → {z : Bool} {a' : Around} {v r : Part} {places₁ work₁ work₂ : List ℕ} → z ≡ ends_of (get_or notes at 0) a.started
-      → a' ≡ started_if (z || a.started) a → Done R first (at + 1) (left - 1) a' places work to v places₁ work₁ → Wrapped (node 9 0) z work₁ to v r work₂ → Got r places₁ work₂
+  pub at_loop : Node left xs at 9 → {z : Bool} {a' : Around} {v r : Laid} {places₁ work₁ work₂ : List ℕ} → z ≡ ends_of (get_or notes at no_note) a.started
+      → a' ≡ started_if (z || a.started) a → Done R first (at + 1) (left - 1) a' places work to v places₁ work₁ → Wrapped (node 9 0) z work₁ v r work₂ → Got r places₁ work₂
   unfolding nodes is_nothing depth names
   at_loop n {z} {a'} {v} {r} {places₁} {work₁} {work₂} e f P W =
       let q : z ≡ can_end R a.started first.statement = e ∙ note_ends R xs notes at left 9 refl (the_loop n).note_is a.started in
@@ -213,8 +213,8 @@ module _ {R : ℕ} {xs notes : List ℕ} {at left : ℕ} {a : Around} {places wo
       (λ i l. P.same i (subst (λ (c : Around). i ≤ c.tries) (sym f) l)) refl
       (record { nodes_are = λ p. refl; some = λ p. refl; deep = λ p. refl; names_are = λ S p. refl }) P W)
 
-  pub at_try : Node left xs at 10 → {z : Bool} {a' : Around} {v r : Part} {places₁ places₂ work₁ work₂ : List ℕ} → z ≡ kept_of (get_or notes at 0) a.started
-      → a' ≡ in_try z a → places₁ ≡ places_in a places → Done R first (at + 1) (left - 1) a' places₁ work to v places₂ work₁ → Wrapped (node 10 0) z work₁ to v r work₂
+  pub at_try : Node left xs at 10 → {z : Bool} {a' : Around} {v r : Laid} {places₁ places₂ work₁ work₂ : List ℕ} → z ≡ ends_of (get_or notes at no_note) a.started
+      → a' ≡ in_try z a → places₁ ≡ places_in a places → Done R first (at + 1) (left - 1) a' places₁ work to v places₂ work₁ → Wrapped (node 10 0) z work₁ v r work₂
       → Got r places₂ work₂
   unfolding nodes is_nothing depth names
   at_try n {z} {a'} {v} {r} {places₁} {places₂} {work₁} {work₂} e f g P W =
@@ -241,7 +241,7 @@ module _ {R : ℕ} {xs notes : List ℕ} {at left : ℕ} {a : Around} {places wo
       one_ready N n.some (the_signal n) a places refl (omega arith) (omega arith) refl N.low
       (λ d h x. left_here (the_signal n).is d h (ends_signal d R a.started operand first.statement ∙ x))
 
-  pub loop_ready : Node left xs at 9 → {z : Bool} {a' : Around} → z ≡ ends_of (get_or notes at 0) a.started → a' ≡ started_if (z || a.started) a
+  pub loop_ready : Node left xs at 9 → {z : Bool} {a' : Around} → z ≡ ends_of (get_or notes at no_note) a.started → a' ≡ started_if (z || a.started) a
       → Trimmable R xs notes (at + 1) (left - 1) a' places work to
   loop_ready n {z} {a'} i e =
       let q : can_end R a.started first.statement ≡ z = sym (i ∙ note_ends R xs notes at left 9 refl (the_loop n).note_is a.started) in
@@ -267,7 +267,7 @@ module _ {R : ℕ} {xs notes : List ℕ} {at left : ℕ} {a : Around} {places wo
       more true k = omega arith
       more false k = k
 
-  pub try_ready : Node left xs at 10 → {z : Bool} {a' : Around} {places' : List ℕ} → z ≡ kept_of (get_or notes at 0) a.started → a' ≡ in_try z a
+  pub try_ready : Node left xs at 10 → {z : Bool} {a' : Around} {places' : List ℕ} → z ≡ ends_of (get_or notes at no_note) a.started → a' ≡ in_try z a
       → places' ≡ places_in a places → Trimmable R xs notes (at + 1) (left - 1) a' places' work to
   try_ready n {z} {a'} {places'} i e f =
       let q = i ∙ note_kept R xs notes at left (the_try n) a.started in
@@ -294,15 +294,15 @@ module _ {R : ℕ} {xs notes : List ℕ} {at left : ℕ} {a : Around} {places wo
 
   -- the place of the second child is noted
   pub at_second : {k : ℕ} {f : Statement → Statement → Statement} (o : NotedTwo R xs notes at left k f a.tries) → eqb k 10 ≡ false
-      → {m : ℕ} → m ≡ second_of (get_or notes at 0) → {a' : Around} {v : Part} {places₁ work₁ : List ℕ}
+      → {m : ℕ} → m ≡ (get_or notes at no_note).second → {a' : Around} {v : Laid} {places₁ work₁ : List ℕ}
       → Done R (statement_at (left - 1) xs m) m (left - 1) a' places work to v places₁ work₁
       → Done R second first.next (left - 1) a' places work to v places₁ work₁
   at_second {k} o plain {m} e {a'} {v} {places₁} {work₁} Q =
-      subst (λ (m : ℕ). Done R (statement_at (left - 1) xs m) m (left - 1) a' places work to v places₁ work₁) (e ∙ note_place R xs notes at left k plain o.note_is) Q
+      subst (λ (m : ℕ). Done R (statement_at (left - 1) xs m) m (left - 1) a' places work to v places₁ work₁) (e ∙ note_place R xs notes at left k plain o.note_is o.both) Q
 
-  pub at_sequence : Node left xs at 7 → {m : ℕ} → m ≡ second_of (get_or notes at 0) → {z : Bool} {a' : Around} {u v r : Part} {places₁ places₂ work₁ work₂ work₃ : List ℕ}
-      → z ≡ ends_of (get_or notes at 0) a.started → a' ≡ started_if z a → Done R (statement_at (left - 1) xs m) m (left - 1) a' places work to v places₁ work₁
-      → Done R first (at + 1) (left - 1) a places₁ work₁ v.from u places₂ work₂ → PartsJoined (node 7 0) work₂ to u v r work₃ → Got r places₂ work₃
+  pub at_sequence : Node left xs at 7 → {m : ℕ} → m ≡ (get_or notes at no_note).second → {z : Bool} {a' : Around} {u v r : Laid} {places₁ places₂ work₁ work₂ work₃ : List ℕ}
+      → z ≡ ends_of (get_or notes at no_note) a.started → a' ≡ started_if z a → Done R (statement_at (left - 1) xs m) m (left - 1) a' places work to v places₁ work₁
+      → Done R first (at + 1) (left - 1) a places₁ work₁ v.from u places₂ work₂ → PartsJoined (node 7 0) work₂ u v r work₃ → Got r places₂ work₃
   at_sequence n place {z} {a'} {u} {v} {r} {places₁} {places₂} {work₁} {work₂} {work₃} e f Q P J =
       let q : z ≡ can_end R a.started first.statement = e ∙ note_ends R xs notes at left 7 refl (the_sequence n).note_is a.started in
       rw (the_sequence n).is
@@ -312,9 +312,9 @@ module _ {R : ℕ} {xs notes : List ℕ} {at left : ℕ} {a : Around} {places wo
       ∙ ap (λ (c : Around). join_parts sequence (trimmed_in R places a first.statement) (trimmed_in R places c second.statement)) (ap (λ (b : Bool). started_if b a) (sym q) ∙ sym f))
       joins_sequence (at_second (the_sequence n) refl place Q) P J)
 
-  pub at_parallel : Node left xs at 8 → {m : ℕ} → m ≡ second_of (get_or notes at 0) → {u v r : Part} {places₁ places₂ work₁ work₂ work₃ : List ℕ}
+  pub at_parallel : Node left xs at 8 → {m : ℕ} → m ≡ (get_or notes at no_note).second → {u v r : Laid} {places₁ places₂ work₁ work₂ work₃ : List ℕ}
       → Done R (statement_at (left - 1) xs m) m (left - 1) a places work to v places₁ work₁
-      → Done R first (at + 1) (left - 1) a places₁ work₁ v.from u places₂ work₂ → PartsJoined (node 8 0) work₂ to u v r work₃ → Got r places₂ work₃
+      → Done R first (at + 1) (left - 1) a places₁ work₁ v.from u places₂ work₂ → PartsJoined (node 8 0) work₂ u v r work₃ → Got r places₂ work₃
   unfolding nodes is_nothing depth names
   at_parallel n place {u} {v} {r} {places₁} {places₂} {work₁} {work₂} {work₃} Q P J =
       rw (the_parallel n).is
@@ -344,12 +344,12 @@ module _ {R : ℕ} {xs notes : List ℕ} {at left : ℕ} {a : Around} {places wo
       go true = refl
       go false = refl
 
-  pub at_present : Node left xs at 6 → {o : ℕ} → o ≡ operand → {m : ℕ} → m ≡ second_of (get_or notes at 0)
-      → {z : Bool} {a' : Around} {u v e r : Part} {places₁ places₂ work₁ work₂ work₃ work₄ : List ℕ} → z ≡ ends_of (get_or notes at 0) false
-      → a' ≡ in_else z a → Done R (statement_at (left - 1) xs m) m (left - 1) a' places work to v places₁ work₁ → ElseClosed a.started z work₁ to v e work₂
-      → Done R first (at + 1) (left - 1) a places₁ work₂ e.from u places₂ work₃ → PresentClosed a.started o work₃ to u e r work₄ → Got r places₂ work₄
+  pub at_present : Node left xs at 6 → {o : ℕ} → o ≡ operand → {m : ℕ} → m ≡ (get_or notes at no_note).second
+      → {z : Bool} {a' : Around} {u v e r : Laid} {places₁ places₂ work₁ work₂ work₃ work₄ : List ℕ} → z ≡ ends_of (get_or notes at no_note) false
+      → a' ≡ in_else z a → Done R (statement_at (left - 1) xs m) m (left - 1) a' places work to v places₁ work₁ → ElseClosed a.started z work₁ v e work₂
+      → Done R first (at + 1) (left - 1) a places₁ work₂ e.from u places₂ work₃ → PresentClosed a.started o work₃ u e r work₄ → Got r places₂ work₄
   at_present n same place {z} {a'} {u} {v} {e} {r} {places₁} {places₂} {work₁} {work₂} {work₃} {work₄} i f Q E P C' =
-      let C : PresentClosed a.started operand work₃ to u e r work₄ = rw same at C' in
+      let C : PresentClosed a.started operand work₃ u e r work₄ = rw same at C' in
       let q : z ≡ can_end R false first.statement = i ∙ note_ends R xs notes at left 6 refl (the_present n).note_is false in
       rw (the_present n).is
       (trimmed_branches R at left a places work to n.some N.to_in z operand first second a' places₁ places₂ work₁ work₂ work₃ work₄ u v e r
@@ -360,40 +360,40 @@ module _ {R : ℕ} {xs notes : List ℕ} {at left : ℕ} {a : Around} {places wo
 
   -- so the second child was trimmed, and the first comes
   module _ {k : ℕ} {f : Statement → Statement → Statement} (n : Node left xs at k) (o : NotedTwo R xs notes at left k f a.tries) (plain : eqb k 10 ≡ false)
-      {m : ℕ} (place : m ≡ second_of (get_or notes at 0)) {a' : Around} {v : Part} {places₁ work₁ : List ℕ}
+      {m : ℕ} (place : m ≡ (get_or notes at no_note).second) {a' : Around} {v : Laid} {places₁ work₁ : List ℕ}
       (Q : Done R (statement_at (left - 1) xs m) m (left - 1) a' places work to v places₁ work₁) where
     pub then_ready : Caught R places a first.statement → a'.tries ≡ a.tries → Trimmable R xs notes (at + 1) (left - 1) a places₁ work₁ v.from
     then_ready = join_ready N n.some o (at_second o plain place Q)
 
-    pub then_room : {places₂ work₂ : List ℕ} {u : Part} → Done R first (at + 1) (left - 1) a places₁ work₁ v.from u places₂ work₂
+    pub then_room : {places₂ work₂ : List ℕ} {u : Laid} → Done R first (at + 1) (left - 1) a places₁ work₁ v.from u places₂ work₂
         → (1 ≤ u.from) × (u.from ≤ 4096) × (u.depth ≤ 200) × (v.depth ≤ 200)
     then_room = join_room N n.some o (at_second o plain place Q)
 
     pub second_closes : (3 ≤ v.from) × (v.from ≤ 4096) × (v.depth ≤ 200)
     second_closes = else_room N n.some o (at_second o plain place Q)
 
-    module _ {z : Bool} {work₂ : List ℕ} {e : Part} (E : ElseClosed a.started z work₁ to v e work₂) where
+    module _ {z : Bool} {work₂ : List ℕ} {e : Laid} (E : ElseClosed a.started z work₁ v e work₂) where
       pub first_ready : Caught R places a first.statement → a'.tries ≡ a.tries → Trimmable R xs notes (at + 1) (left - 1) a places₁ work₂ e.from
       first_ready = branch_ready N n.some o (at_second o plain place Q) E
 
-      pub first_closes : {places₂ work₃ : List ℕ} {u : Part} → Done R first (at + 1) (left - 1) a places₁ work₂ e.from u places₂ work₃
+      pub first_closes : {places₂ work₃ : List ℕ} {u : Laid} → Done R first (at + 1) (left - 1) a places₁ work₂ e.from u places₂ work₃
           → (S : ℕ) → S ≤ 31 → (cond a.started 2 1 ≤ u.from) × (u.from ≤ 4096) × (u.depth ≤ 200) × (e.depth ≤ 200) × (S ≤ 31)
       first_closes = present_room N n.some o (at_second o plain place Q) E
 
-  pub sequence_ready : Node left xs at 7 → {m : ℕ} → m ≡ second_of (get_or notes at 0) → {z : Bool} {a' : Around} → z ≡ ends_of (get_or notes at 0) a.started
+  pub sequence_ready : Node left xs at 7 → {m : ℕ} → m ≡ (get_or notes at no_note).second → {z : Bool} {a' : Around} → z ≡ ends_of (get_or notes at no_note) a.started
       → a' ≡ started_if z a → Trimmable R xs notes m (left - 1) a' places work to
   sequence_ready n {m} i {z} {a'} j e =
       let q : can_end R a.started first.statement ≡ z = sym (j ∙ note_ends R xs notes at left 7 refl (the_sequence n).note_is a.started) in
-      rw e (second_ready N n.some (the_sequence n) m (started_if z a) (i ∙ note_place R xs notes at left 7 refl (the_sequence n).note_is) refl (omega arith) (omega arith)
+      rw e (second_ready N n.some (the_sequence n) m (started_if z a) (i ∙ note_place R xs notes at left 7 refl (the_sequence n).note_is (the_sequence n).both) refl (omega arith) (omega arith)
       (λ d h x. left_here (the_sequence n).is d h (ends_sequence d R a.started first.statement second.statement
       ∙ or_right (ends_at d (trim R a.started first.statement)) (ap (λ (b : Bool). ends_at d (trim R b second.statement)) q ∙ x))))
 
   pub sequence_first : Node left xs at 7 → Caught R places a first.statement
   sequence_first n d h x = left_here (the_sequence n).is d h (ends_sequence d R a.started first.statement second.statement ∙ or_left _ x)
 
-  pub parallel_ready : Node left xs at 8 → {m : ℕ} → m ≡ second_of (get_or notes at 0) → Trimmable R xs notes m (left - 1) a places work to
+  pub parallel_ready : Node left xs at 8 → {m : ℕ} → m ≡ (get_or notes at no_note).second → Trimmable R xs notes m (left - 1) a places work to
   parallel_ready n {m} i =
-      second_ready N n.some (the_parallel n) m a (i ∙ note_place R xs notes at left 8 refl (the_parallel n).note_is) refl (omega arith) (omega arith)
+      second_ready N n.some (the_parallel n) m a (i ∙ note_place R xs notes at left 8 refl (the_parallel n).note_is (the_parallel n).both) refl (omega arith) (omega arith)
       (λ d h x. left_here (the_parallel n).is d h (ends_parallel d R a.started first.statement second.statement
       ∙ or_right (ends_at d (trim R a.started first.statement)) x))
 
@@ -420,10 +420,10 @@ module _ {R : ℕ} {xs notes : List ℕ} {at left : ℕ} {a : Around} {places wo
       go true = refl
       go false = refl
 
-  pub present_ready : Node left xs at 6 → {m : ℕ} → m ≡ second_of (get_or notes at 0) → (z : Bool) {a' : Around} → a' ≡ in_else z a
+  pub present_ready : Node left xs at 6 → {m : ℕ} → m ≡ (get_or notes at no_note).second → (z : Bool) {a' : Around} → a' ≡ in_else z a
       → Trimmable R xs notes m (left - 1) a' places work to
   present_ready n {m} i z {a'} e =
-      rw e (second_ready N n.some (the_present n) m (in_else z a) (i ∙ note_place R xs notes at left 6 refl (the_present n).note_is) (else_tries z) (else_kept z).0 (else_kept z).1
+      rw e (second_ready N n.some (the_present n) m (in_else z a) (i ∙ note_place R xs notes at left 6 refl (the_present n).note_is (the_present n).both) (else_tries z) (else_kept z).0 (else_kept z).1
       (λ d h x.
       let k = left_here (the_present n).is d (omega (arith, else_tries z)) (ends_branches d R a.started operand first.statement second.statement
       ∙ or_right (ends_at d (trim R a.started first.statement)) (ap (λ (b : Bool). ends_at d (trim R b second.statement)) (sym (else_started z)) ∙ x)) in

@@ -1,12 +1,14 @@
 -- The exits that are left in a trimmed statement, from those left in its children: at each level of the statement an exit
 -- ends exactly if one did at that level of a child, a level more inside a try.
 use mathlib.Core.Path.{◌≡◌, refl, sym, ap₂, ◌∙◌}
-use mathlib.Core.Bool.{Bool, true, false, ◌||◌}
+use mathlib.Core.Bool.{Bool, true, false, cond, ◌||◌}
 use Prim.Native.Nat.{ℕ, zero, suc, pred, ◌≤◌}
 use native.Mathlib.Omega.{arith}
 use borrow.Author.Tests.{ne_eqb}
 use lib.Dec.{eqb, eqb-suc-suc, eqb-zero-suc}
-use Rattle.sets.proofs.Booleans.{or_false, or_neither}
+use Rattle.sets.specs.Set.{has}
+use Rattle.esterel.specs.Codes.{join}
+use Rattle.sets.proofs.Booleans.{or_false, or_left, or_right, or_neither, clash}
 use Rattle.esterel.specs.Statement.{Statement, nothing, pause, gotopause, emit, exit, signal, present, sequence, parallel, loop, try}
 use Rattle.esterel.specs.Trimming.{join_parts, ends_at, shift_level, shift_exits, can_end, trim_loop, trim_present, trim}
 use Rattle.esterel.proofs.Trimming.{by_join, by_signal, by_present, by_try}
@@ -100,3 +102,52 @@ module _ (d : ℕ) where
   unfolding trim ends_at
   ends_branches R true S p q = refl
   ends_branches R false S p q = ends_present (can_end R false p) (trim R false p) (trim R false q)
+
+or_both : {x y x' y' : Bool} → (x || y) ≡ true → (x ≡ true → x' ≡ true) → (y ≡ true → y' ≡ true) → (x' || y') ≡ true
+or_both {x} {y} {x'} {y'} h f g = go x y h f g
+  where
+    go : (x y : Bool) → (x || y) ≡ true → (x ≡ true → x' ≡ true) → (y ≡ true → y' ≡ true) → (x' || y') ≡ true
+    go true y h f g = or_left y' (f refl)
+    go false y h f g = or_right x' (g h)
+
+-- ---- what is left of a statement that is only resumed is left of it where it is started
+
+ends_sooner : (R : ℕ) (p : Statement) → can_end R false p ≡ true → can_end R true p ≡ true
+unfolding can_end join
+ends_sooner R p h = or_left _ h
+
+if_not : (d : ℕ) (z : Bool) (t : Statement) → ends_at d t ≡ false → ends_at d (cond z t nothing) ≡ true → ⊥
+unfolding ends_at
+if_not d true t h e = clash e h
+if_not d false t h e = clash e refl
+
+pub ends_more : (d R : ℕ) (p : Statement) → ends_at d (trim R false p) ≡ true → ends_at d (trim R true p) ≡ true
+unfolding trim ends_at
+ends_more d R nothing h = h
+ends_more d R (pause l) h = absurd (if_not d (has R l) (pause l) refl h)
+ends_more d R (gotopause l) h = absurd (clash h refl)
+ends_more d R (emit S) h = absurd (clash h refl)
+ends_more d R (exit e) h = absurd (clash h refl)
+ends_more d R (signal S p) h = ends_signal d R true S p ∙ ends_more d R p (sym (ends_signal d R false S p) ∙ h)
+ends_more d R (present S p q) h =
+    ends_branches d R true S p q ∙ or_both (sym (ends_branches d R false S p q) ∙ h) (ends_more d R p) (ends_more d R q)
+ends_more d R (sequence p q) h =
+    ends_sequence d R true p q ∙ or_both (sym (ends_sequence d R false p q) ∙ h) (ends_more d R p) (then (can_end R false p) (can_end R true p) (ends_sooner R p) (ends_more d R q))
+  where
+    then : (y z : Bool) → (y ≡ true → z ≡ true) → (ends_at d (trim R false q) ≡ true → ends_at d (trim R true q) ≡ true)
+        → ends_at d (trim R y q) ≡ true → ends_at d (trim R z q) ≡ true
+    then true z f g e = rw (f refl) e
+    then false true f g e = g e
+    then false false f g e = e
+ends_more d R (parallel p q) h =
+    ends_parallel d R true p q ∙ or_both (sym (ends_parallel d R false p q) ∙ h) (ends_more d R p) (ends_more d R q)
+ends_more d R (loop p) h =
+    ends_loop d R true p ∙ again (can_end R false p) (can_end R true p) (ends_more d R p) (sym (ends_loop d R false p) ∙ h)
+  where
+    again : (y z : Bool) → (ends_at d (trim R false p) ≡ true → ends_at d (trim R true p) ≡ true)
+        → ends_at d (trim R (y || false) p) ≡ true → ends_at d (trim R (z || true) p) ≡ true
+    again true true g e = e
+    again true false g e = e
+    again false true g e = g e
+    again false false g e = g e
+ends_more d R (try p) h = ends_try d R true p ∙ ends_more (suc d) R p (sym (ends_try d R false p) ∙ h)

@@ -21,13 +21,13 @@ use Rattle.table.specs.Kinds.{kinds, kind_of, row_of}
 use Rattle.table.specs.Reading.{operand_of}
 use Rattle.table.specs.inner.Places.{Placed, placed, place_one, place_kind, statement_at}
 use Rattle.table.proofs.Places.{Node, placed_node, placed_none, next_forward, next_within}
-use Rattle.reach.specs.declared.codes.CodeSet.{CodeSet}
-use Rattle.reach.specs.inner.CodeSets.{codes_of, followed_by}
+use Rattle.reach.specs.inner.CodeSets.{followed_by}
 use Rattle.reach.proofs.Summing.{s_followed, d_followed, d_looped}
 use Rattle.trim.specs.declared.marks.Exits.{Exits}
 use Rattle.trim.specs.declared.marks.Marked.{Marked}
-use Rattle.trim.specs.inner.Notes.{live, note_with, note_for}
-use Rattle.trim.specs.inner.Marking.{ExitsAre, exits, exit_at, either_of, exits_if, in_turn_of, again_of, outside_of, Finds, DeadFound, LeafReady, LeafFound, OneFound, PartsFound, Markable, Marks}
+use Rattle.trim.specs.declared.noted.Note.{Note}
+use Rattle.trim.specs.inner.Notes.{live, note_with, no_note, second_place, note_for}
+use Rattle.trim.specs.inner.Marking.{ExitsAre, no_exits, exit_at, either_of, exits_if, in_turn_of, again_of, outside_of, Finds, DeadFound, LeafReady, LeafFound, OneFound, PartsFound, Markable, Marks}
 use Rattle.trim.proofs.Parts.{has_signal, has_or}
 use Rattle.trim.proofs.Leaving.{ends_signal, ends_sequence, ends_parallel, ends_loop, ends_try, ends_branches}
 use Rattle.trim.proofs.Notes.{noted_make, noted_none, noted_stay}
@@ -36,8 +36,8 @@ use Rattle.trim.proofs.Live.{live_none, live_pause, live_two}
 -- ---- the exits of a statement, from those of its children
 
 -- a leaf that is no exit
-no_exits : (R : ℕ) (t : Statement) (n : ℕ) → ((b : Bool) (d : ℕ) → ends_at d (trim R b t) ≡ false) → ExitsAre R (placed t n) (exits 0 0)
-no_exits R t n h = record { resumed = λ d. has_empty (suc d) ∙ sym (h false d); started = λ d. has_empty (suc d) ∙ sym (h true d) }
+none_left : (R : ℕ) (t : Statement) (n : ℕ) → ((b : Bool) (d : ℕ) → ends_at d (trim R b t) ≡ false) → ExitsAre R (placed t n) no_exits
+none_left R t n h = record { resumed = λ d. has_empty (suc d) ∙ sym (h false d); started = λ d. has_empty (suc d) ∙ sym (h true d) }
 
 if_leaf : (d : ℕ) (z : Bool) (t : Statement) → ends_at d t ≡ false → ends_at d (cond z t nothing) ≡ false
 unfolding ends_at
@@ -121,31 +121,31 @@ try_exits R p x P =
 
 -- ---- what is found, kind by kind
 
-pub found_pause : (R l next : ℕ) (m : Marked) → codes_of m.s ≡ just_at l → codes_of m.d ≡ cond m.live just_ended none → m.exits ≡ exits 0 0 → m.live ≡ has R l → m.next ≡ next
+pub found_pause : (R l next : ℕ) (m : Marked) → m.s ≡ just_at l → m.d ≡ cond m.live just_ended none → m.exits ≡ no_exits → m.live ≡ has R l → m.next ≡ next
     → Finds R (placed (pause l) next) m
 unfolding s d trim ends_at
 found_pause R l next m a b e z n = record {
   start = a;
   resumed = b ∙ ap (λ (y : Bool). cond y just_ended none) z;
-  leaving = rw e (no_exits R (pause l) next (λ b d. if_leaf d (b || has R l) (pause l) refl));
+  leaving = rw e (none_left R (pause l) next (λ b d. if_leaf d (b || has R l) (pause l) refl));
   lives = z ∙ sym (live_pause R l);
   next = n;
 }
 
-module _ {K : CodeSet} {e : Exits} {next : ℕ} {m : Marked} (F : DeadFound K e next m) (R : ℕ) where
-  pub found_nothing : codes_of K ≡ just_ended → e ≡ exits 0 0 → Finds R (placed nothing next) m
+module _ {K : Codes} {e : Exits} {next : ℕ} {m : Marked} (F : DeadFound K e next m) (R : ℕ) where
+  pub found_nothing : K ≡ just_ended → e ≡ no_exits → Finds R (placed nothing next) m
   unfolding s d pauses trim ends_at
-  found_nothing k x = F.found R nothing k refl (rw x (no_exits R nothing next (λ b d. refl))) (live_none R nothing refl)
+  found_nothing k x = F.found R nothing k refl (rw x (none_left R nothing next (λ b d. refl))) (live_none R nothing refl)
 
-  pub found_emit : (S : ℕ) → codes_of K ≡ just_ended → e ≡ exits 0 0 → Finds R (placed (emit S) next) m
+  pub found_emit : (S : ℕ) → K ≡ just_ended → e ≡ no_exits → Finds R (placed (emit S) next) m
   unfolding s d pauses trim ends_at
-  found_emit S k x = F.found R (emit S) k refl (rw x (no_exits R (emit S) next (λ b d. if_leaf d b (emit S) refl))) (live_none R (emit S) refl)
+  found_emit S k x = F.found R (emit S) k refl (rw x (none_left R (emit S) next (λ b d. if_leaf d b (emit S) refl))) (live_none R (emit S) refl)
 
-  pub found_gotopause : (l : ℕ) → codes_of K ≡ just_at l → e ≡ exits 0 0 → Finds R (placed (gotopause l) next) m
+  pub found_gotopause : (l : ℕ) → K ≡ just_at l → e ≡ no_exits → Finds R (placed (gotopause l) next) m
   unfolding s d pauses trim ends_at
-  found_gotopause l k x = F.found R (gotopause l) k refl (rw x (no_exits R (gotopause l) next (λ b d. if_leaf d b (gotopause l) refl))) (live_none R (gotopause l) refl)
+  found_gotopause l k x = F.found R (gotopause l) k refl (rw x (none_left R (gotopause l) next (λ b d. if_leaf d b (gotopause l) refl))) (live_none R (gotopause l) refl)
 
-  pub found_exit : (l : ℕ) → l < 64 → codes_of K ≡ just_code (code_of l) → e ≡ exit_at l → Finds R (placed (exit l) next) m
+  pub found_exit : (l : ℕ) → l < 64 → K ≡ just_code (code_of l) → e ≡ exit_at l → Finds R (placed (exit l) next) m
   unfolding s d pauses
   found_exit l h k x = F.found R (exit l) k refl (rw x (one_exit R l next h)) (live_none R (exit l) refl)
 
@@ -155,18 +155,18 @@ module _ (R : ℕ) (P : Placed) {p : Marked} (F : Finds R P p) where
   found_signal S = record { start = F.start; resumed = F.resumed; leaving = signal_exits R S P p.exits F.leaving; lives = F.lives; next = F.next }
 
   module _ (m : Marked) (l : m.live ≡ p.live) (n : m.next ≡ p.next) where
-    pub found_loop : codes_of m.s ≡ minus_zero (codes_of p.s) → codes_of m.d ≡ followed_by (codes_of p.d) (codes_of m.s) → m.exits ≡ again_of (codes_of p.d).ends p.exits
+    pub found_loop : m.s ≡ minus_zero p.s → m.d ≡ followed_by p.d m.s → m.exits ≡ again_of p.d.ends p.exits
         → Finds R (place_one loop P) m
     unfolding s live pauses
     found_loop a b e = record {
       start = a ∙ ap minus_zero F.start;
       resumed = b ∙ ap₂ followed_by F.resumed (a ∙ ap minus_zero F.start) ∙ sym (d_looped R P.statement);
-      leaving = rw e (again_exits R P p.exits (codes_of p.d).ends (can_resume R P.statement F.resumed) F.leaving);
+      leaving = rw e (again_exits R P p.exits p.d.ends (can_resume R P.statement F.resumed) F.leaving);
       lives = l ∙ F.lives;
       next = n ∙ F.next;
     }
 
-    pub found_try : codes_of m.s ≡ through_try (codes_of p.s) → codes_of m.d ≡ through_try (codes_of p.d) → m.exits ≡ outside_of p.exits → Finds R (place_one try P) m
+    pub found_try : m.s ≡ through_try p.s → m.d ≡ through_try p.d → m.exits ≡ outside_of p.exits → Finds R (place_one try P) m
     unfolding s d live pauses
     found_try a b e = record {
       start = a ∙ ap through_try F.start;
@@ -181,7 +181,7 @@ module _ (R : ℕ) (P Q : Placed) {p q : Marked} (F : Finds R P p) (G : Finds R 
   both_live : (t : Statement) → pauses t ≡ pauses P.statement union pauses Q.statement → m.live ≡ live R t
   both_live t e = l ∙ ap₂ ◌||◌ F.lives G.lives ∙ sym (live_two R t P.statement Q.statement e)
 
-  pub found_present : (S : ℕ) → codes_of m.s ≡ join (codes_of p.s) (codes_of q.s) → codes_of m.d ≡ join (codes_of p.d) (codes_of q.d) → m.exits ≡ either_of p.exits q.exits
+  pub found_present : (S : ℕ) → m.s ≡ join p.s q.s → m.d ≡ join p.d q.d → m.exits ≡ either_of p.exits q.exits
       → Finds R (placed (present S P.statement Q.statement) Q.next) m
   unfolding s d pauses
   found_present S a b e = record {
@@ -192,20 +192,20 @@ module _ (R : ℕ) (P Q : Placed) {p q : Marked} (F : Finds R P p) (G : Finds R 
     next = n ∙ G.next;
   }
 
-  pub found_sequence : codes_of m.s ≡ followed_by (codes_of p.s) (codes_of q.s) → codes_of m.d ≡ join (followed_by (codes_of p.d) (codes_of q.s)) (codes_of q.d)
-      → m.exits ≡ in_turn_of (codes_of p.d).ends ((codes_of p.d).ends || (codes_of p.s).ends) p.exits q.exits
+  pub found_sequence : m.s ≡ followed_by p.s q.s → m.d ≡ join (followed_by p.d q.s) q.d
+      → m.exits ≡ in_turn_of p.d.ends (p.d.ends || p.s.ends) p.exits q.exits
       → Finds R (placed (sequence P.statement Q.statement) Q.next) m
   unfolding pauses
   found_sequence a b e = record {
     start = a ∙ ap₂ followed_by F.start G.start ∙ sym (s_followed P.statement Q.statement);
     resumed = b ∙ ap₂ join (ap₂ followed_by F.resumed G.start) G.resumed ∙ sym (d_followed R P.statement Q.statement);
-    leaving = rw e (turn_exits R P Q p.exits q.exits (codes_of p.d).ends ((codes_of p.d).ends || (codes_of p.s).ends)
+    leaving = rw e (turn_exits R P Q p.exits q.exits p.d.ends (p.d.ends || p.s.ends)
         (can_resume R P.statement F.resumed) (can_start R P.statement F.start F.resumed) F.leaving G.leaving);
     lives = both_live (sequence P.statement Q.statement) refl;
     next = n ∙ G.next;
   }
 
-  pub found_parallel : codes_of m.s ≡ maximum (codes_of p.s) (codes_of q.s) → codes_of m.d ≡ join (codes_of p.d) (codes_of q.d) → m.exits ≡ either_of p.exits q.exits
+  pub found_parallel : m.s ≡ maximum p.s q.s → m.d ≡ join p.d q.d → m.exits ≡ either_of p.exits q.exits
       → Finds R (placed (parallel P.statement Q.statement) Q.next) m
   unfolding s d pauses
   found_parallel a b e = record {
@@ -274,7 +274,7 @@ two_live R k a b o child at =
     (live_two R (present o p.statement q.statement) p.statement q.statement refl) (live_two R (sequence p.statement q.statement) p.statement q.statement refl)
     (live_two R (parallel p.statement q.statement) p.statement q.statement refl)
 
-pub mark_none : (R : ℕ) (nodes : List ℕ) (left at : ℕ) (notes : List ℕ) (m : Marked) → (left ≡ 0) ⊎ (length nodes ≤ at) → Finds R (placed nothing at) m → Marks R nodes left at notes m notes
+pub mark_none : (R : ℕ) (nodes : List ℕ) (left at : ℕ) (notes : List Note) (m : Marked) → (left ≡ 0) ⊎ (length nodes ≤ at) → Finds R (placed nothing at) m → Marks R nodes left at notes m notes
 mark_none R nodes left at notes m h F = record {
   finds = rw (placed_none left nodes at h) F;
   noted = noted_none R notes nodes left at h;
@@ -282,7 +282,7 @@ mark_none R nodes left at notes m h F = record {
   low = λ i l. refl;
 }
 
-module _ (R : ℕ) {left : ℕ} {nodes : List ℕ} {at k : ℕ} (n : Node left nodes at k) {notes : List ℕ} (N : Markable left nodes at notes) where
+module _ (R : ℕ) {left : ℕ} {nodes : List ℕ} {at k : ℕ} (n : Node left nodes at k) {notes : List Note} (N : Markable left nodes at notes) where
   abbrev o : ℕ
   o = operand_of (get_or nodes at 0)
 
@@ -306,7 +306,8 @@ module _ (R : ℕ) {left : ℕ} {nodes : List ℕ} {at k : ℕ} (n : Node left n
       let (inside, v) = first_valid k a b N.tries o child (at + 1) valid_here in
       record { tries = inside; valid = v; all = N.all; known = N.known; room = N.room }
 
-  pub enter_second : 6 ≤ k → k ≤ 8 → {p : Marked} {notes₁ : List ℕ} → Marks R nodes (left - 1) (at + 1) notes p notes₁ → Markable (left - 1) nodes p.next notes₁
+  pub enter_second : 6 ≤ k → k ≤ 8 → {p : Marked} {notes₁ : List Note} → Marks R nodes (left - 1) (at + 1) notes p notes₁
+      → Markable (left - 1) nodes p.next notes₁
   enter_second a b M = record {
     tries = N.tries;
     valid = subst (λ (j : ℕ). Valid N.tries (child j).statement) (sym M.finds.next) (second_valid k a b N.tries o child (at + 1) valid_here);
@@ -324,17 +325,17 @@ module _ (R : ℕ) {left : ℕ} {nodes : List ℕ} {at k : ℕ} (n : Node left n
       exit_level v = v.0
 
   -- a place of a note fits it
-  pub note_fits : {p : Marked} → Finds R first p → (at < 1024) × (p.next ≤ 1024)
+  pub note_fits : {p : Marked} → Finds R first p → p.next ≤ 1024
   note_fits F =
       let w = next_within nodes (left - 1) (at + 1) (omega (arith, n.inside)) in
-      (omega (arith, n.inside, N.all), omega (arith, w, F.next, N.all))
+      omega (arith, w, F.next, N.all)
 
-  module _ (notes₁ : List ℕ) (x : ℕ) {notes₂ : List ℕ} (w : notes₂ ≡ set notes₁ at x) where
-    written : at < length notes₁ → get_or notes₂ at 0 ≡ x
-    written h = ap (λ (l : List ℕ). get_or l at 0) w ∙ get_or-set_same notes₁ at x 0 h
+  module _ (notes₁ : List Note) (x : Note) {notes₂ : List Note} (w : notes₂ ≡ set notes₁ at x) where
+    written : at < length notes₁ → get_or notes₂ at no_note ≡ x
+    written h = ap (λ (l : List Note). get_or l at no_note) w ∙ get_or-set_same notes₁ at x no_note h
 
-    others : (i : ℕ) → i ≢ at → get_or notes₂ i 0 ≡ get_or notes₁ i 0
-    others i l = ap (λ (l : List ℕ). get_or l i 0) w ∙ get_or-set_other notes₁ at i x 0 l
+    others : (i : ℕ) → i ≢ at → get_or notes₂ i no_note ≡ get_or notes₁ i no_note
+    others i l = ap (λ (l : List Note). get_or l i no_note) w ∙ get_or-set_other notes₁ at i x no_note l
 
     long : length notes₂ ≡ length notes₁
     long = ap length w ∙ length-set notes₁ at x
@@ -342,7 +343,7 @@ module _ (R : ℕ) {left : ℕ} {nodes : List ℕ} {at k : ℕ} (n : Node left n
   found_here : {m : Marked} → Finds R (place_kind (kind_of k) o child (at + 1)) m → Finds R whole m
   found_here F = rw (placed_node n) F
 
-  pub mark_leaf : {m : Marked} {notes₁ : List ℕ} → k ≤ 4 → LeafFound R k o (at + 1) m → notes₁ ≡ set notes at (note_with 0 m.live false false)
+  pub mark_leaf : {m : Marked} {notes₁ : List Note} → k ≤ 4 → LeafFound R k o (at + 1) m → notes₁ ≡ set notes at (note_with 0 m.live false false)
       → Marks R nodes left at notes m notes₁
   unfolding note_for
   mark_leaf {m} {notes₁} h F w =
@@ -359,8 +360,8 @@ module _ (R : ℕ) {left : ℕ} {nodes : List ℕ} {at k : ℕ} (n : Node left n
   forward = next_forward nodes (left - 1) (at + 1)
 
   -- one child
-  module _ {p m : Marked} {notes₁ notes₂ : List ℕ} (M : Marks R nodes (left - 1) (at + 1) notes p notes₁) (c : (row_of (kind_of k)).children ≡ 1) (f : Finds R whole m)
-      (x : ℕ) (w : notes₂ ≡ set notes₁ at x) (e : x ≡ note_for R k whole.statement first) where
+  module _ {p m : Marked} {notes₁ notes₂ : List Note} (M : Marks R nodes (left - 1) (at + 1) notes p notes₁) (c : (row_of (kind_of k)).children ≡ 1) (f : Finds R whole m)
+      (x : Note) (w : notes₂ ≡ set notes₁ at x) (e : x ≡ note_for R k whole.statement first) where
     mark_one : Marks R nodes left at notes m notes₂
     mark_one = record {
       finds = f;
@@ -373,8 +374,8 @@ module _ (R : ℕ) {left : ℕ} {nodes : List ℕ} {at k : ℕ} (n : Node left n
     }
 
   -- two
-  module _ {p q m : Marked} {notes₁ notes₂ notes₃ : List ℕ} (M : Marks R nodes (left - 1) (at + 1) notes p notes₁) (M₂ : Marks R nodes (left - 1) first.next notes₁ q notes₂)
-      (c : (row_of (kind_of k)).children ≡ 2) (f : Finds R whole m) (x : ℕ) (w : notes₃ ≡ set notes₂ at x) (e : x ≡ note_for R k whole.statement first) where
+  module _ {p q m : Marked} {notes₁ notes₂ notes₃ : List Note} (M : Marks R nodes (left - 1) (at + 1) notes p notes₁) (M₂ : Marks R nodes (left - 1) first.next notes₁ q notes₂)
+      (c : (row_of (kind_of k)).children ≡ 2) (f : Finds R whole m) (x : Note) (w : notes₃ ≡ set notes₂ at x) (e : x ≡ note_for R k whole.statement first) where
     mark_both : Marks R nodes left at notes m notes₃
     mark_both = record {
       finds = f;
@@ -390,58 +391,58 @@ module _ (R : ℕ) {left : ℕ} {nodes : List ℕ} {at k : ℕ} (n : Node left n
     }
 
   -- the note of a first child, and of a body
-  abbrev written_child : Marked → Bool → ℕ
-  written_child p z = note_with p.next z (codes_of p.d).ends (codes_of p.s).ends
+  abbrev written_child : Marked → ℕ → Bool → Note
+  written_child p second z = note_with second z p.d.ends p.s.ends
 
-  child_note : {p : Marked} (z : Bool) → Finds R first p → z ≡ live R whole.statement → eqb (row_of (kind_of k)).children 0 ≡ false → eqb k 10 ≡ false
-      → written_child p z ≡ note_for R k whole.statement first
+  child_note : {p : Marked} (second : ℕ) (z : Bool) → Finds R first p → second ≡ second_place (row_of (kind_of k)).children first → z ≡ live R whole.statement
+      → eqb (row_of (kind_of k)).children 0 ≡ false → eqb k 10 ≡ false → written_child p second z ≡ note_for R k whole.statement first
   unfolding note_for
-  child_note {p} z F e c t =
-      ap₂ (λ (j : ℕ) (y : Bool). note_with j y (codes_of p.d).ends (codes_of p.s).ends) F.next e
-      ∙ ap₂ (λ (D K : Codes). note_with first.next (live R whole.statement) D.ends K.ends) F.resumed F.start ∙ rw (c, t)
+  child_note {p} second z F f e c t =
+      ap₂ (λ (j : ℕ) (y : Bool). note_with j y p.d.ends p.s.ends) f e
+      ∙ ap₂ (λ (D K : Codes). note_with (second_place (row_of (kind_of k)).children first) (live R whole.statement) D.ends K.ends) F.resumed F.start ∙ rw (c, t)
 
-  abbrev written_try : Marked → ℕ
-  written_try p = note_with p.next p.live (has p.exits.resumed 1) (has p.exits.started 1)
+  abbrev written_try : Marked → Note
+  written_try p = note_with 0 p.live (has p.exits.resumed 1) (has p.exits.started 1)
 
   try_note : {p : Marked} → Finds R first p → p.live ≡ live R whole.statement → eqb (row_of (kind_of k)).children 0 ≡ false → eqb k 10 ≡ true
       → written_try p ≡ note_for R k whole.statement first
   unfolding note_for
   try_note {p} F e c t =
-      ap₂ (λ (j : ℕ) (y : Bool). note_with j y (has p.exits.resumed 1) (has p.exits.started 1)) F.next e
-      ∙ ap₂ (λ (y z : Bool). note_with first.next (live R whole.statement) y z) (F.leaving.resumed 0) (F.leaving.started 0) ∙ rw (c, t)
+      ap (λ (y : Bool). note_with 0 y (has p.exits.resumed 1) (has p.exits.started 1)) e
+      ∙ ap₂ (λ (y z : Bool). note_with 0 (live R whole.statement) y z) (F.leaving.resumed 0) (F.leaving.started 0) ∙ rw (c, t)
 
   lives_here : {z : Bool} → z ≡ live R (place_kind (kind_of k) o child (at + 1)).statement → z ≡ live R whole.statement
   lives_here e = e ∙ sym (ap (λ (x : Placed). live R x.statement) (placed_node n))
 
-module _ (R : ℕ) {left : ℕ} {nodes : List ℕ} {at : ℕ} {notes : List ℕ} (N : Markable left nodes at notes) {p : Marked} {notes₁ : List ℕ}
+module _ (R : ℕ) {left : ℕ} {nodes : List ℕ} {at : ℕ} {notes : List Note} (N : Markable left nodes at notes) {p : Marked} {notes₁ : List Note}
     (M : Marks R nodes (left - 1) (at + 1) notes p notes₁) where
   abbrev body : Placed
   body = statement_at (left - 1) nodes (at + 1)
 
-  pub mark_signal : (n : Node left nodes at 5) {notes₂ : List ℕ} → notes₂ ≡ set notes₁ at (written_child R n N p p.live) → Marks R nodes left at notes p notes₂
+  pub mark_signal : (n : Node left nodes at 5) {notes₂ : List Note} → notes₂ ≡ set notes₁ at (written_child R n N p 0 p.live) → Marks R nodes left at notes p notes₂
   unfolding place_kind kind_of kinds row_of live pauses
   mark_signal n w =
-      mark_one R n N M refl (found_here R n N (found_signal R body M.finds (operand_of (get_or nodes at 0)))) (written_child R n N p p.live) w
-      (child_note R n N p.live M.finds (lives_here R n N M.finds.lives) refl refl)
+      mark_one R n N M refl (found_here R n N (found_signal R body M.finds (operand_of (get_or nodes at 0)))) (written_child R n N p 0 p.live) w
+      (child_note R n N 0 p.live M.finds refl (lives_here R n N M.finds.lives) refl refl)
 
-  pub mark_loop : (n : Node left nodes at 9) {m : Marked} {notes₂ : List ℕ} → OneFound loop p m → notes₂ ≡ set notes₁ at (written_child R n N p p.live) → Marks R nodes left at notes m notes₂
+  pub mark_loop : (n : Node left nodes at 9) {m : Marked} {notes₂ : List Note} → OneFound loop p m → notes₂ ≡ set notes₁ at (written_child R n N p 0 p.live) → Marks R nodes left at notes m notes₂
   unfolding place_kind kind_of kinds row_of live pauses
   mark_loop n F w =
-      mark_one R n N M refl (found_here R n N (F R body M.finds)) (written_child R n N p p.live) w
-      (child_note R n N p.live M.finds (lives_here R n N M.finds.lives) refl refl)
+      mark_one R n N M refl (found_here R n N (F R body M.finds)) (written_child R n N p 0 p.live) w
+      (child_note R n N 0 p.live M.finds refl (lives_here R n N M.finds.lives) refl refl)
 
-  pub mark_try : (n : Node left nodes at 10) {m : Marked} {notes₂ : List ℕ} → OneFound try p m → notes₂ ≡ set notes₁ at (written_try R n N p) → Marks R nodes left at notes m notes₂
+  pub mark_try : (n : Node left nodes at 10) {m : Marked} {notes₂ : List Note} → OneFound try p m → notes₂ ≡ set notes₁ at (written_try R n N p) → Marks R nodes left at notes m notes₂
   unfolding place_kind kind_of kinds row_of live pauses
   mark_try n F w =
       mark_one R n N M refl (found_here R n N (F R body M.finds)) (written_try R n N p) w
       (try_note R n N M.finds (lives_here R n N M.finds.lives) refl refl)
 
-  pub mark_two : {k : ℕ} → 6 ≤ k → k ≤ 8 → (n : Node left nodes at k) {q m : Marked} {notes₂ notes₃ : List ℕ} → Marks R nodes (left - 1) p.next notes₁ q notes₂ → PartsFound k p q m
-      → notes₃ ≡ set notes₂ at (written_child R n N p (p.live || q.live)) → Marks R nodes left at notes m notes₃
+  pub mark_two : {k : ℕ} → 6 ≤ k → k ≤ 8 → (n : Node left nodes at k) {q m : Marked} {notes₂ notes₃ : List Note} → Marks R nodes (left - 1) p.next notes₁ q notes₂ → PartsFound k p q m
+      → notes₃ ≡ set notes₂ at (written_child R n N p p.next (p.live || q.live)) → Marks R nodes left at notes m notes₃
   mark_two {k} least most n {q} {m} {notes₂} {notes₃} M₂ F w =
       mark_both R n N M second (two_children k least most) (found_here R n N (F R (operand_of (get_or nodes at 0)) (statement_at (left - 1) nodes) (at + 1) M.finds second.finds))
-      (written_child R n N p (p.live || q.live)) w
-      (child_note R n N (p.live || q.live) M.finds
+      (written_child R n N p p.next (p.live || q.live)) w
+      (child_note R n N p.next (p.live || q.live) M.finds (M.finds.next ∙ sym (ap (λ (c : ℕ). second_place c body) (two_children k least most)))
       (lives_here R n N (ap₂ ◌||◌ M.finds.lives second.finds.lives ∙ sym (two_live R k least most (operand_of (get_or nodes at 0)) (statement_at (left - 1) nodes) (at + 1)))) (rw (two_children k least most)) (eqb_differ k 10 (λ z. omega arith)))
     where
       second : Marks R nodes (left - 1) body.next notes₁ q notes₂

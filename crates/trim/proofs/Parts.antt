@@ -9,22 +9,21 @@ use native.Mathlib.Decide.{ℕ_discrete}
 use native.Mathlib.Numerals.{sub-one}
 use native.Mathlib.Omega.{arith}
 use lib.Bits.{bit_or}
-use borrow.Author.Tests.{ltb-true, ltb-false}
+use borrow.Author.Tests.{eqb-true, eqb-false, ltb-true, ltb-false}
 use lib.Dec.{eqb, ltb}
 use lib.ListN.{length, get_or, take, drop, set, length-append, length-drop, take-append-drop}
 use lib.Seq.{take-suc, drop_at, set_at, take-append-le, take-take, length-take-le, drop-set-lt, drop-set-add}
 use Rattle.sets.specs.Set.{has, only, ◌union◌}
-use Rattle.sets.proofs.Booleans.{or_false, by_cond, eqb_same, eqb_differ}
+use Rattle.sets.proofs.Booleans.{by_cond, eqb_same, eqb_differ}
 use Rattle.sets.proofs.Members.{has_union, has_empty, has_only, has_only_other, only_fits}
-use Rattle.esterel.specs.Statement.{Statement, nothing, pause, gotopause, emit, exit, signal, present, sequence, parallel, loop, try, depth}
+use Rattle.esterel.specs.Statement.{Statement, nothing, exit, present, sequence, try, depth}
 use Rattle.esterel.specs.Trimming.{is_nothing, names, join_parts}
 use Rattle.esterel.proofs.Trimming.{is_nothing_lem, join_first, join_both}
 use Rattle.table.specs.Kinds.{kinds, kind_of, row_of}
 use Rattle.table.specs.Writing.{nodes, node}
 use Rattle.table.proofs.Nodes.{depth_positive}
-use Rattle.trim.specs.declared.work.Part.{Part}
 use Rattle.trim.specs.inner.Levels.{wrap_if, guarded_if}
-use Rattle.trim.specs.inner.Parts.{part, part_depth, Puts, NodesStand, PartStands, WholeStands, held_with, nothing_at, Fitting, Joins, LeafPut, NothingFilled, Wrapped, PartsJoined, ElseClosed, PresentClosed}
+use Rattle.trim.specs.inner.Parts.{Laid, part, part_depth, Puts, NodesStand, PartStands, WholeStands, held_with, nothing_at, PutAt, Fitting, Joins, LeafPut, NothingFilled, Wrapped, PartsJoined, ElseClosed, PresentClosed}
 
 -- ---- lists written from their end
 
@@ -84,34 +83,20 @@ puts_both l m work between work' to mid from w q p =
 
 -- ---- parts and whole statements
 
-nodes_some : (t : Statement) → 1 ≤ length (nodes t)
-unfolding nodes
-nodes_some nothing = omega arith
-nodes_some (pause l) = omega arith
-nodes_some (gotopause l) = omega arith
-nodes_some (emit S) = omega arith
-nodes_some (exit e) = omega arith
-nodes_some (signal S p) = omega arith
-nodes_some (present S p q) = omega arith
-nodes_some (sequence p q) = omega arith
-nodes_some (parallel p q) = omega arith
-nodes_some (loop p) = omega arith
-nodes_some (try p) = omega arith
-
--- no node was written, or one at least
-part_none : (t : Statement) → length (part t) ≡ 0 → t ≡ nothing
-unfolding part
-part_none t = go (is_nothing t) refl
+-- a part is nothing exactly where its depth is 0
+depth_none : (t : Statement) → part_depth t ≡ 0 → t ≡ nothing
+unfolding part_depth
+depth_none t = go (is_nothing t) refl
   where
-    go : (z : Bool) → is_nothing t ≡ z → length (cond z [] (nodes t)) ≡ 0 → t ≡ nothing
+    go : (z : Bool) → is_nothing t ≡ z → cond z 0 (depth t) ≡ 0 → t ≡ nothing
     go true e h = is_nothing_lem t e
-    go false e h = let n = nodes_some t in absurd (omega arith)
+    go false e h = let n = depth_positive t in absurd (omega arith)
 
-part_some : (t : Statement) → length (part t) ≢ 0 → is_nothing t ≡ false
-unfolding part
-part_some t = go (is_nothing t) refl
+depth_some : (t : Statement) → part_depth t ≢ 0 → is_nothing t ≡ false
+unfolding part_depth
+depth_some t = go (is_nothing t) refl
   where
-    go : (z : Bool) → is_nothing t ≡ z → length (cond z [] (nodes t)) ≢ 0 → is_nothing t ≡ false
+    go : (z : Bool) → is_nothing t ≡ z → cond z 0 (depth t) ≢ 0 → is_nothing t ≡ false
     go true e h = absurd (h refl)
     go false e h = e
 
@@ -123,22 +108,29 @@ depth_whole : (t : Statement) → is_nothing t ≡ false → part_depth t ≡ de
 unfolding part_depth
 depth_whole t e = rw e
 
-module _ (t : Statement) (work : List ℕ) (to : ℕ) (r : Part) (work' : List ℕ) where
+module _ (t : Statement) (work : List ℕ) (to : ℕ) (r : Laid) (work' : List ℕ) where
   whole_made : is_nothing t ≡ false → WholeStands t work to r work' → PartStands t work to r work'
   whole_made e W = subst₂ (λ (l : List ℕ) (d : ℕ). NodesStand l d t work to r work') (sym (part_whole t e)) (sym (depth_whole t e)) W
 
   made_whole : is_nothing t ≡ false → PartStands t work to r work' → WholeStands t work to r work'
   made_whole e M = subst₂ (λ (l : List ℕ) (d : ℕ). NodesStand l d t work to r work') (part_whole t e) (depth_whole t e) M
 
-  made_none : PartStands t work to r work' → r.from ≡ to → t ≡ nothing
-  made_none M e = part_none t (omega (arith, M.puts.from_is))
+  made_none : PartStands t work to r work' → r.depth ≡ 0 → t ≡ nothing
+  made_none M e = depth_none t (sym M.depth_is ∙ e)
 
-  made_some : PartStands t work to r work' → r.from ≢ to → is_nothing t ≡ false
-  made_some M n = part_some t (λ z. n (omega (arith, M.puts.from_is)))
+  made_some : PartStands t work to r work' → r.depth ≢ 0 → is_nothing t ≡ false
+  made_some M n = depth_some t (λ z. n (M.depth_is ∙ z))
 
 pub made_nothing : (work : List ℕ) (to : ℕ) → PartStands nothing work to (nothing_at to) work
 unfolding part part_depth is_nothing names
 made_nothing work to = record { puts = puts_none work to; depth_is = refl; names_are = has_empty }
+
+-- what the test of a part's depth says
+pub no_depth : {z : Bool} {n : ℕ} → z ≡ eqb n 0 → z ≡ true → n ≡ 0
+no_depth {z} {n} e h = eqb-true n 0 (sym e ∙ h)
+
+pub some_depth : {z : Bool} {n : ℕ} → z ≡ eqb n 0 → z ≡ false → n ≢ 0
+some_depth {z} {n} e h = eqb-false n 0 (sym e ∙ h)
 
 -- ---- kinds whose operand is 0
 
@@ -176,10 +168,6 @@ present_fits S h = record { kind_in = omega arith; least = zero-le; most = h }
 
 -- ---- a statement of one node
 
--- what `put` does
-abbrev pub PutAt : List ℕ → ℕ → ℕ → ℕ → List ℕ → Type 0
-PutAt work from x f work' = (f ≡ from - 1) × (work' ≡ held_with work (from - 1) x)
-
 puts_put : (l before work work' : List ℕ) (to from x f : ℕ) → 1 ≤ from → to ≤ 4096 → Puts l before to from work → PutAt work from x f work'
     → Puts (x ∷ l) before to f work'
 puts_put l before work work' to from x f h w p e = subst₂ (λ (n : ℕ) (m : List ℕ). Puts (x ∷ l) before to n m) (sym e.0) (sym e.1) (puts_more l before work to from x h w p)
@@ -199,12 +187,12 @@ leaf_put x named work to f work' h w e =
 
 -- ---- nothing filled in
 
-pub filled_none : (work : List ℕ) (to : ℕ) (p : Part) (f : ℕ) (work' : List ℕ) → 1 ≤ p.from → p.from ≡ to → PutAt work p.from (node 0 0) f work'
-    → NothingFilled work to p (record { from = f; depth = 1; named = p.named }) work'
+pub filled_none : (work : List ℕ) (p : Laid) (f : ℕ) (work' : List ℕ) → 1 ≤ p.from → p.depth ≡ 0 → PutAt work p.from (node 0 0) f work'
+    → NothingFilled work p (record { from = f; depth = 1; named = p.named }) work'
 unfolding nodes depth part is_nothing
-filled_none work to p f work' h z e =
+filled_none work p f work' h z e =
     record {
-      made = λ t before w M.
+      made = λ t before to w M.
           let n : t ≡ nothing = made_none t before to p work M z in
           let N : PartStands nothing before to p work = subst (λ (u : Statement). PartStands u before to p work) n M in
           subst (λ (u : Statement). WholeStands u before to (record { from = f; depth = 1; named = p.named }) work') (sym n)
@@ -214,23 +202,23 @@ filled_none work to p f work' h z e =
       shallow = omega arith;
     }
 
-pub filled_some : (work : List ℕ) (to : ℕ) (p : Part) → p.from ≢ to → NothingFilled work to p p work
-filled_some work to p n =
-    record { made = λ t before w M. made_whole t before to p work (made_some t before to p work M n) M; near = omega arith; below = omega arith; shallow = omega arith }
+pub filled_some : (work : List ℕ) (p : Laid) → p.depth ≢ 0 → NothingFilled work p p work
+filled_some work p n =
+    record { made = λ t before to w M. made_whole t before to p work (made_some t before to p work M n) M; near = omega arith; below = omega arith; shallow = omega arith }
 
 -- ---- a statement over a part
 
-pub wrapped_not : (x : ℕ) (z : Bool) (work : List ℕ) (to : ℕ) (p : Part) → z ≡ false → Wrapped x z work to p p work
+pub wrapped_not : (x : ℕ) (z : Bool) (work : List ℕ) (p : Laid) → z ≡ false → Wrapped x z work p p work
 unfolding wrap_if
-wrapped_not x z work to p e = record { made = λ f t before W w M. rw e M; near = omega arith; shallow = omega arith }
+wrapped_not x z work p e = record { made = λ f t before to W w M. rw e M; near = omega arith; shallow = omega arith }
 
-pub wrapped_put : (x : ℕ) (z : Bool) (work : List ℕ) (to : ℕ) (p v : Part) (between : List ℕ) (f : ℕ) (work' : List ℕ) → z ≡ true → 1 ≤ v.from
-    → NothingFilled work to p v between → PutAt between v.from x f work' → Wrapped x z work to p (record { from = f; depth = v.depth + 1; named = v.named }) work'
+pub wrapped_put : (x : ℕ) (z : Bool) (work : List ℕ) (p v : Laid) (between : List ℕ) (f : ℕ) (work' : List ℕ) → z ≡ true → 1 ≤ v.from
+    → NothingFilled work p v between → PutAt between v.from x f work' → Wrapped x z work p (record { from = f; depth = v.depth + 1; named = v.named }) work'
 unfolding wrap_if
-wrapped_put x z work to p v between f work' k h F e =
+wrapped_put x z work p v between f work' k h F e =
     record {
-      made = λ g t before W w M.
-          let U = F.made t before w M in
+      made = λ g t before to W w M.
+          let U = F.made t before to w M in
           rw k (whole_made (g t) before to (record { from = f; depth = v.depth + 1; named = v.named }) work' (W.some t) (record {
             puts = subst (λ (l : List ℕ). Puts l before to f work') (sym (W.nodes_are t)) (puts_put (nodes t) before between work' to v.from x f h w U.puts e);
             depth_is = omega (arith, U.depth_is, W.deep t);
@@ -262,57 +250,49 @@ join_none : (f : Statement → Statement → Statement) (t : Statement) → join
 unfolding join_parts is_nothing
 join_none f t = refl
 
-abbrev joined_part : Part → Part → ℕ → ℕ → Part
-joined_part p q f d = record { from = f; depth = d; named = bit_or p.named q.named }
-
-module _ (x : ℕ) (work : List ℕ) (to : ℕ) (p q : Part) where
-  pub joined_second : p.from ≡ q.from → PartsJoined x work to p q (joined_part p q p.from (max p.depth q.depth)) work
+module _ (x : ℕ) (work : List ℕ) (p q : Laid) where
+  pub joined_second : p.depth ≡ 0 → PartsJoined x work p q (record { from = p.from; depth = q.depth; named = q.named }) work
   unfolding part part_depth is_nothing names
   joined_second z =
       record {
-        made = λ f s t before between J w Q P.
+        made = λ f s t before between to J w Q P.
             let n : s ≡ nothing = made_none s between q.from p work P z in
             let N : PartStands nothing between q.from p work = subst (λ (u : Statement). PartStands u between q.from p work) n P in
-            let r : Part = joined_part p q p.from (max p.depth q.depth) in
+            let r : Laid = record { from = p.from; depth = q.depth; named = q.named } in
             subst (λ (u : Statement). PartStands u before to r work) (sym (join_none f t) ∙ ap (λ (u : Statement). join_parts f u t) (sym n))
-            (record {
-              puts = puts_both [] (part t) before between work to q.from p.from w Q.puts N.puts;
-              depth_is = omega (arith, N.depth_is, Q.depth_is);
-              names_are = λ S. names_two p.named q.named S nothing t (N.names_are S) (Q.names_are S);
-            });
+            (record { puts = puts_both [] (part t) before between work to q.from p.from w Q.puts N.puts; depth_is = Q.depth_is; names_are = Q.names_are });
         near = omega arith;
         shallow = omega arith;
       }
 
-  pub joined_first : q.from ≡ to → PartsJoined x work to p q (joined_part p q p.from (max p.depth q.depth)) work
+  pub joined_first : q.depth ≡ 0 → PartsJoined x work p q p work
   unfolding part part_depth is_nothing names
   joined_first z =
       record {
-        made = λ f s t before between J w Q P.
+        made = λ f s t before between to J w Q P.
             let n : t ≡ nothing = made_none t before to q between Q z in
             let N : PartStands nothing before to q between = subst (λ (u : Statement). PartStands u before to q between) n Q in
-            let r : Part = joined_part p q p.from (max p.depth q.depth) in
-            subst (λ (u : Statement). PartStands u before to r work)
+            subst (λ (u : Statement). PartStands u before to p work)
             (sym (join_first f s t (ap is_nothing n)))
             (record {
               puts = subst (λ (l : List ℕ). Puts l before to p.from work) (append-nil (part s)) (puts_both (part s) [] before between work to q.from p.from w N.puts P.puts);
-              depth_is = omega (arith, N.depth_is, P.depth_is);
-              names_are = λ S. names_two p.named q.named S s nothing (P.names_are S) (N.names_are S) ∙ or_false (names S s);
+              depth_is = P.depth_is;
+              names_are = P.names_are;
             });
         near = omega arith;
         shallow = omega arith;
       }
 
-  pub joined_put : (f : ℕ) (work' : List ℕ) → 1 ≤ p.from → p.from ≢ q.from → q.from ≢ to → PutAt work p.from x f work'
-      → PartsJoined x work to p q (joined_part p q f (max p.depth q.depth + 1)) work'
+  pub joined_put : (f : ℕ) (work' : List ℕ) → 1 ≤ p.from → p.depth ≢ 0 → q.depth ≢ 0 → PutAt work p.from x f work'
+      → PartsJoined x work p q (record { from = f; depth = max p.depth q.depth + 1; named = bit_or p.named q.named }) work'
   joined_put f work' h m n e =
       record {
-        made = λ g s t before between J w Q P.
+        made = λ g s t before between to J w Q P.
             let a : is_nothing s ≡ false = made_some s between q.from p work P m in
             let b : is_nothing t ≡ false = made_some t before to q between Q n in
             let U = made_whole s between q.from p work a P in
             let T = made_whole t before to q between b Q in
-            let r : Part = joined_part p q f (max p.depth q.depth + 1) in
+            let r : Laid = record { from = f; depth = max p.depth q.depth + 1; named = bit_or p.named q.named } in
             subst (λ (u : Statement). PartStands u before to r work') (sym (join_both g s t a b))
             (whole_made (g s t) before to r work' (J.some s t) (record {
               puts = subst (λ (l : List ℕ). Puts l before to f work') (sym (J.nodes_are s t))
@@ -350,35 +330,35 @@ guard_some : (t : Statement) → is_nothing t ≡ false → guarded_if true t �
 unfolding guarded_if wrap_if
 guard_some t e = rw e
 
-module _ (started z : Bool) (work : List ℕ) (to : ℕ) (q : Part) where
-  pub else_whole : started ≡ true → (r : Part) (work' : List ℕ) → NothingFilled work to q r work' → ElseClosed started z work to q r work'
+module _ (started z : Bool) (work : List ℕ) (q : Laid) where
+  pub else_whole : started ≡ true → (r : Laid) (work' : List ℕ) → NothingFilled work q r work' → ElseClosed started z work q r work'
   else_whole e r work' F =
-      rw e (record { made = λ t before w M. F.made t before w M; near = F.near; shallow = omega (arith, F.shallow) })
+      rw e (record { made = λ t before to w M. F.made t before to w M; near = F.near; shallow = omega (arith, F.shallow) })
 
-  pub else_none : started ≡ false → q.from ≡ to → ElseClosed started z work to q q work
+  pub else_none : started ≡ false → q.depth ≡ 0 → ElseClosed started z work q q work
   else_none e h =
       rw e (record {
-        made = λ t before w M.
+        made = λ t before to w M.
             let n : t ≡ nothing = made_none t before to q work M h in
             subst (λ (u : Statement). PartStands u before to q work) (n ∙ sym (guard_none z) ∙ ap (guarded_if z) (sym n)) M;
         near = omega arith;
         shallow = omega arith;
       })
 
-  pub else_free : started ≡ false → z ≡ false → ElseClosed started z work to q q work
+  pub else_free : started ≡ false → z ≡ false → ElseClosed started z work q q work
   else_free e h =
-      rw (e, h) (record { made = λ t before w M. subst (λ (u : Statement). PartStands u before to q work) (sym (guard_not t)) M; near = omega arith; shallow = omega arith })
+      rw (e, h) (record { made = λ t before to w M. subst (λ (u : Statement). PartStands u before to q work) (sym (guard_not t)) M; near = omega arith; shallow = omega arith })
 
-  pub else_guarded : started ≡ false → z ≡ true → q.from ≢ to → 3 ≤ q.from → (f₁ f₂ f₃ : ℕ) (work₁ work₂ work₃ : List ℕ)
+  pub else_guarded : started ≡ false → z ≡ true → q.depth ≢ 0 → 3 ≤ q.from → (f₁ f₂ f₃ : ℕ) (work₁ work₂ work₃ : List ℕ)
       → PutAt work q.from (node 4 1) f₁ work₁ → PutAt work₁ f₁ (node 7 0) f₂ work₂ → PutAt work₂ f₂ (node 10 0) f₃ work₃
-      → ElseClosed started z work to q (record { from = f₃; depth = q.depth + 2; named = q.named }) work₃
+      → ElseClosed started z work q (record { from = f₃; depth = q.depth + 2; named = q.named }) work₃
   unfolding nodes names is_nothing
   else_guarded e k n h f₁ f₂ f₃ work₁ work₂ work₃ A B C =
       rw (e, k) (record {
-        made = λ t before w M.
+        made = λ t before to w M.
             let some : is_nothing t ≡ false = made_some t before to q work M n in
             let U = made_whole t before to q work some M in
-            let r : Part = record { from = f₃; depth = q.depth + 2; named = q.named } in
+            let r : Laid = record { from = f₃; depth = q.depth + 2; named = q.named } in
             let one = puts_put (nodes t) before work work₁ to q.from 257 f₁ (omega arith) w U.puts A in
             let two = puts_put (257 ∷ nodes t) before work₁ work₂ to f₁ 448 f₂ (omega (arith, A.0)) w one B in
             let three = puts_put (448 ∷ (257 ∷ nodes t)) before work₂ work₃ to f₂ 640 f₃ (omega (arith, A.0, B.0)) w two C in
@@ -400,24 +380,24 @@ or_turned true false = refl
 or_turned false true = refl
 or_turned false false = refl
 
-module _ (started : Bool) (S : ℕ) (work : List ℕ) (to : ℕ) (p q : Part) where
-  pub present_joined : started ≡ false → (r : Part) (work' : List ℕ) → PartsJoined (node 7 0) work to p q r work' → PresentClosed started S work to p q r work'
+module _ (started : Bool) (S : ℕ) (work : List ℕ) (p q : Laid) where
+  pub present_joined : started ≡ false → (r : Laid) (work' : List ℕ) → PartsJoined (node 7 0) work p q r work' → PresentClosed started S work p q r work'
   present_joined e r work' J =
       rw e (record {
-        made = λ s t before between w Q P. J.made sequence s t before between joins_sequence w Q P;
+        made = λ s t before between to w Q P. J.made sequence s t before between to joins_sequence w Q P;
         near = J.near;
         shallow = omega (arith, J.shallow);
       })
 
-  pub present_whole : started ≡ true → (v : Part) (work₁ : List ℕ) (f own : ℕ) (work' : List ℕ) → 1 ≤ v.from → ((n : ℕ) → has own n ≡ eqb n S)
-      → NothingFilled work q.from p v work₁ → PutAt work₁ v.from (node 6 S) f work'
-      → PresentClosed started S work to p q (record { from = f; depth = max v.depth q.depth + 1; named = bit_or (bit_or v.named q.named) own }) work'
+  pub present_whole : started ≡ true → (v : Laid) (work₁ : List ℕ) (f own : ℕ) (work' : List ℕ) → 1 ≤ v.from → ((n : ℕ) → has own n ≡ eqb n S)
+      → NothingFilled work p v work₁ → PutAt work₁ v.from (node 6 S) f work'
+      → PresentClosed started S work p q (record { from = f; depth = max v.depth q.depth + 1; named = bit_or (bit_or v.named q.named) own }) work'
   unfolding nodes is_nothing depth names
   present_whole e v work₁ f own work' h o F A =
       rw e (record {
-        made = λ s t before between w Q P.
-            let U = F.made s between (omega (arith, Q.puts.from_is)) P in
-            let r : Part = record { from = f; depth = max v.depth q.depth + 1; named = bit_or (bit_or v.named q.named) own } in
+        made = λ s t before between to w Q P.
+            let U = F.made s between q.from (omega (arith, Q.puts.from_is)) P in
+            let r : Laid = record { from = f; depth = max v.depth q.depth + 1; named = bit_or (bit_or v.named q.named) own } in
             whole_made (present S s t) before to r work' refl (record {
               puts = puts_put (nodes s ++ nodes t) before work₁ work' to v.from (node 6 S) f h w
                   (puts_both (nodes s) (nodes t) before between work₁ to q.from v.from w Q.puts U.puts) A;

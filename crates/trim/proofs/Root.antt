@@ -9,7 +9,6 @@ use borrow.Author.Tests.{lt-ltb, le-ltb}
 use lib.Dec.{eqb, ltb}
 use lib.ListN.{length, take, drop, replicate, length-replicate, length-append, length-drop}
 use lib.Seq.{drop_at, drop-drop, drop-length, length-take-le, take_all}
-use Rattle.sets.specs.Set.{has}
 use Rattle.sets.proofs.Booleans.{or_left, or_right, eqb_differ}
 use Rattle.esterel.specs.Statement.{Statement, size, depth, Valid}
 use Rattle.esterel.specs.declared.Share.{Share}
@@ -25,22 +24,24 @@ use Rattle.table.specs.inner.Making.{Writable}
 use Rattle.table.proofs.Nodes.{length_nodes}
 use Rattle.table.proofs.Fields.{length_write_nodes}
 use Rattle.reach.specs.declared.Settled.{Settled}
-use Rattle.reach.specs.declared.Analysed.{Analysed}
-use Rattle.reach.specs.declared.Analysed.TheVariants.{Rest}
+use Rattle.table.specs.declared.Refusal.{Refusal}
+use Rattle.table.specs.declared.Refusal.TheVariants as refused_as
+use Rattle.std.specs.Prelude.{Result, Ok, Err}
 use Rattle.reach.specs.inner.Rounds.{Reaches}
 use Rattle.reach.proofs.Answers.{rest_same}
 use Rattle.trim.specs.declared.descent.Around.{Around}
 use Rattle.trim.specs.declared.marks.Marked.{Marked}
-use Rattle.trim.specs.declared.work.Part.{Part}
-use Rattle.trim.specs.declared.Trimmed.TheVariants.{Refused, Accepted}
+use Rattle.trim.specs.declared.descent.Room.{Room}
+use Rattle.trim.specs.declared.noted.Note.{Note}
 use Rattle.trim.specs.inner.Levels.{level_out, trimmed_in}
 use Rattle.trim.specs.inner.Notes.{Noted}
 use Rattle.trim.specs.inner.Marking.{Markable, Marks}
-use Rattle.trim.specs.inner.Parts.{part, PartStands, NothingFilled, reach_set_of, Trimmable, Done}
+use Rattle.trim.specs.inner.Parts.{Laid, part, PartStands, NothingFilled, reach_set_of, Trimmable, Done}
 use Rattle.trim.specs.Answers.{trimmed_outcome, values_for, trim_for}
 use Rattle.trim.specs.inner.Root.{Lent, Ends, EndFits, Finished}
 use Rattle.trim.proofs.Levels.{map_closed}
 use Rattle.trim.proofs.Refused.{no_name}
+use Rattle.sets.specs.Set.{has}
 
 part_size : (t : Statement) → length (part t) ≤ size t
 unfolding part
@@ -60,14 +61,23 @@ all_places n m work e = (replicate n 0 ++ work, length-append (replicate n 0) wo
 -- ---- trimming the root
 
 -- the rounds over the nodes have come to rest, and there is room for marking and trimming
-pub record AtRest (xs notes places work : List ℕ) (found : Settled) : Type 0 where
+pub record AtRest (xs : List ℕ) (notes : List Note) (room : Room) (found : Settled) : Type 0 where
   pub loaded : Loaded xs
-  pub lent : Lent notes places work
-  pub answer : Analysed
+  pub lent : Lent notes room
+  pub answer : Result Settled Refusal
   pub reaches : Reaches xs answer
-  pub is : answer ≡ Rest found
+  pub is : answer ≡ Ok found
 
-module _ {xs notes places work : List ℕ} {found : Settled} (A : AtRest xs notes places work found) where
+module _ {xs : List ℕ} {notes : List Note} {room : Room} {found : Settled} (A : AtRest xs notes room found) where
+  abbrev places : List ℕ
+  places = room.places
+
+  abbrev work : List ℕ
+  work = room.work.nodes
+
+  abbrev end : ℕ
+  end = room.work.from
+
   abbrev R : ℕ
   R = reach_set_of xs
 
@@ -89,20 +99,20 @@ module _ {xs notes places work : List ℕ} {found : Settled} (A : AtRest xs note
   pub root_markable : Markable 60 xs 0 notes
   root_markable = record { tries = 0; valid = A.loaded.valid; all = A.loaded.all; known = A.loaded.known; room = A.lent.notes_are }
 
-  module _ {m : Marked} {notes' : List ℕ} (M : Marks found.set xs 60 0 notes m notes') where
+  module _ {m : Marked} {notes' : List Note} (M : Marks found.set xs 60 0 notes m notes') where
     -- marking met no node of no kind
     pub root_marked : eqb m.next 1025 ≡ false
     root_marked = eqb_differ m.next 1025 (λ z. omega (arith, M.finds.next, A.loaded.next_is, A.loaded.few))
 
-    pub root_trimmable : Trimmable R xs notes' 0 60 root places work 4096
+    pub root_trimmable : Trimmable R xs notes' 0 60 root places work end
     root_trimmable =
         record {
           valid = A.loaded.valid;
           noted = subst (λ (r : ℕ). Noted r notes' xs 60 0) reached M.noted;
           all = A.loaded.all;
           known = A.loaded.known;
-          room = omega (arith, A.loaded.next_is, A.loaded.few);
-          to_in = omega arith;
+          room = omega (arith, A.loaded.next_is, A.loaded.few, A.lent.whole);
+          to_in = omega (arith, A.lent.whole);
           tries_in = omega arith;
           kept_in = omega arith;
           wide = A.lent.places_are;
@@ -110,25 +120,25 @@ module _ {xs notes places work : List ℕ} {found : Settled} (A : AtRest xs note
           caught = λ d h x. absurd (omega arith);
         }
 
-  module _ {p : Part} {places' work₁ : List ℕ} (D : Done R (statement_at 60 xs 0) 0 60 root places work 4096 p places' work₁) where
-    made : PartStands result work 4096 p work₁
-    made = subst (λ (t : Statement). PartStands t work 4096 p work₁) root_is D.made
+  module _ {p : Laid} {places' work₁ : List ℕ} (D : Done R (statement_at 60 xs 0) 0 60 root places work end p places' work₁) where
+    made : PartStands result work end p work₁
+    made = subst (λ (t : Statement). PartStands t work end p work₁) root_is D.made
 
     -- nor did trimming
     pub root_named : has p.named 63 ≡ false
     root_named = made.names_are 63 ∙ no_name 0 63 result valid (omega arith)
 
-    pub root_room : (1 ≤ p.from) × (p.from ≤ 4096)
+    pub root_room : 1 ≤ p.from
     root_room =
         let e = made.puts.from_is in
         let s = size_trimmed (statement_of xs) A.loaded.valid in
         let f = A.loaded.few in
-        (omega (arith, part_size result), omega arith)
+        omega (arith, part_size result, A.lent.whole)
 
-    pub root_ends : {v : Part} {work₂ : List ℕ} → NothingFilled work₁ 4096 p v work₂ → Ends result v work₂
+    pub root_ends : {v : Laid} {work₂ : List ℕ} → NothingFilled work₁ p v work₂ → Ends result v work₂
     root_ends {v} {work₂} F =
-        let (all, long, is) = all_places 3072 1024 work A.lent.work_is in
-        let W = F.made result work (omega arith) made in
+        let (all, long, is) = all_places 3072 1024 work room.work.full in
+        let W = F.made result work 4096 (omega arith) (subst (λ (n : ℕ). PartStands result work n p work₁) A.lent.whole made) in
         let e = W.puts.from_is in
         let t : length (take v.from all) ≡ v.from = length-take-le v.from all (omega arith) in
         let none : drop 4096 all ≡ [] = ap (λ (n : ℕ). drop n all) (sym long) ∙ drop-length all in
@@ -143,7 +153,7 @@ module _ {xs notes places work : List ℕ} {found : Settled} (A : AtRest xs note
 
 -- ---- the end of trimming
 
-module _ (n : ℕ) (p : Part) (work out : List ℕ) where
+module _ (n : ℕ) (p : Laid) (work out : List ℕ) where
   module _ (t : Statement) (E : Ends t p work) where
     counted : size t ≡ 4096 - p.from
     counted = let e = E.count in omega arith
@@ -157,11 +167,11 @@ module _ (n : ℕ) (p : Part) (work out : List ℕ) where
     unfolding trim_for buffer_after
     refused_12 h = (rw h, rw h)
 
-  pub finish_many : 1024 < 4096 - p.from → Finished n work p out (Refused 12) out
+  pub finish_many : 1024 < 4096 - p.from → Finished n work p out (Err refused_as.Size) out
   unfolding Finished trimmed_outcome
   finish_many h t E = refused_12 t E (or_left (ltb deepest (depth t)) (lt-ltb 1024 (size t) (omega (arith, counted t E))))
 
-  pub finish_deep : 60 < p.depth → Finished n work p out (Refused 12) out
+  pub finish_deep : 60 < p.depth → Finished n work p out (Err refused_as.Size) out
   unfolding Finished trimmed_outcome
   finish_deep h t E = refused_12 t E (or_right (ltb 1024 (size t)) (lt-ltb deepest (depth t) (omega (arith, E.deep))))
 
@@ -169,13 +179,13 @@ module _ (n : ℕ) (p : Part) (work out : List ℕ) where
     allowed : (t : Statement) → Ends t p work → (ltb 1024 (size t) || ltb deepest (depth t)) ≡ false
     allowed t E = rw (le-ltb 1024 (size t) (omega (arith, counted t E)), le-ltb deepest (depth t) (omega (arith, E.deep)))
 
-    pub finish_short : (b : ℕ) → b ≡ length_of (4096 - p.from) → length out < b → Finished n work p out (Refused 13) out
+    pub finish_short : (b : ℕ) → b ≡ length_of (4096 - p.from) → length out < b → Finished n work p out (Err refused_as.Room) out
     unfolding Finished trimmed_outcome trim_for buffer_after
     finish_short b e h t E =
         let l : ltb (length out) (length (write t)) ≡ true = lt-ltb (length out) (length (write t)) (omega (arith, long t E)) in
         (rw (allowed t E, l), rw (allowed t E, l))
 
-    module _ (b : ℕ) (e : b ≡ length_of (4096 - p.from)) (room : b ≤ length out) where
+    module _ (b : ℕ) (e : b ≡ length_of (4096 - p.from)) (room : b ≤ length out) (wide : length work ≡ 1024) where
       abbrev first : ℕ
       first = p.from - 3072
 
@@ -183,10 +193,10 @@ module _ (n : ℕ) (p : Part) (work out : List ℕ) where
       held = omega arith
 
       abbrev slice : List ℕ
-      slice = take (length work - first) (drop first work)
+      slice = take (1024 - first) (drop first work)
 
       slice_is : slice ≡ drop first work
-      slice_is = take_all (length work - first) (drop first work) (omega (arith, length-drop first work))
+      slice_is = take_all (1024 - first) (drop first work) (omega (arith, length-drop first work))
 
       pub finish_writable : EndFits p work → Writable slice (length out)
       finish_writable F =
@@ -200,7 +210,7 @@ module _ (n : ℕ) (p : Part) (work out : List ℕ) where
         values_are t E = rw (k.0, k.1, counted t E, e, long t E) refl
 
         pub finish_written : (m : ℕ) (out' : List ℕ) → (m ≡ length (write_nodes slice)) × (out' ≡ write_nodes slice ++ drop m out)
-            → Finished n work p out (Accepted (record { nodes = 4096 - p.from; bytes = b; share = share })) out'
+            → Finished n work p out (Ok (record { nodes = 4096 - p.from; bytes = b; share = share })) out'
         unfolding Finished trimmed_outcome trim_for buffer_after write
         finish_written m out' w t E =
             let l : ltb (length out) (length (write t)) ≡ false = le-ltb (length out) (length (write t)) (omega (arith, e, long t E)) in

@@ -14,19 +14,19 @@ use Rattle.table.specs.Kinds.{kinds, kind_of, row_of}
 use Rattle.table.specs.Reading.{operand_of}
 use Rattle.table.specs.inner.Places.{Placed, placed, place_kind, statement_at}
 use Rattle.trim.specs.declared.descent.Around.{Around}
-use Rattle.trim.specs.declared.work.Part.{Part}
+use Rattle.trim.specs.declared.noted.Note.{Note}
 use Rattle.trim.specs.inner.Levels.{map_exits, level_out, trimmed_in, wrap_if}
-use Rattle.trim.specs.inner.Notes.{live, Noted, second_of, ends_of, kept_of, child_note, note_for}
+use Rattle.trim.specs.inner.Notes.{live, Noted, no_note, ends_of, second_place, try_note, child_note, note_for}
 use Rattle.table.proofs.Places.{Node, placed_node, next_forward}
-use Rattle.trim.specs.inner.Parts.{PartStands, nothing_at, Leaf, Wraps, Joins, LeafPut, Wrapped, PartsJoined, Branch, branch_if, present_if, ElseClosed, PresentClosed, Caught, Trimmable, Done}
+use Rattle.trim.specs.inner.Parts.{Laid, PartStands, nothing_at, Leaf, Wraps, Joins, LeafPut, Wrapped, PartsJoined, Branch, branch_if, present_if, ElseClosed, PresentClosed, Caught, Trimmable, Done}
 use Rattle.trim.proofs.Live.{dead_nothing}
 use Rattle.trim.proofs.Parts.{made_nothing}
 use Rattle.trim.proofs.Trimming.{LowPlaces, trimmed_places, trimmed_nothing}
-use Rattle.trim.proofs.Notes.{noted_node, second_note, ends_note, try_kept}
+use Rattle.trim.proofs.Notes.{noted_node, ends_note, try_kept}
 
 -- ---- a node and its children
 
-module _ (R : ℕ) (xs notes : List ℕ) (at left : ℕ) where
+module _ (R : ℕ) (xs : List ℕ) (notes : List Note) (at left : ℕ) where
   abbrev first : Placed
   first = statement_at (left - 1) xs (at + 1)
 
@@ -35,7 +35,7 @@ module _ (R : ℕ) (xs notes : List ℕ) (at left : ℕ) where
 
   -- the note of a node with children
   abbrev ParentNote : ℕ → Type 0
-  ParentNote k = (eqb (row_of (kind_of k)).children 0 ≡ false) × (get_or notes at 0 ≡ note_for R k (statement_at left xs at).statement first)
+  ParentNote k = (eqb (row_of (kind_of k)).children 0 ≡ false) × (get_or notes at no_note ≡ note_for R k (statement_at left xs at).statement first)
 
   -- a node of kind k with one child, which stands in `inside` try statements
   pub record NotedOne (k : ℕ) (f : Statement → Statement) (inside : ℕ) : Type 0 where
@@ -50,39 +50,42 @@ module _ (R : ℕ) (xs notes : List ℕ) (at left : ℕ) where
     pub valid_second : Valid inside second.statement
     pub noted : Noted R notes xs (left - 1) (at + 1)
     noted_second : Noted R notes xs (left - 1) first.next
+    pub both : (row_of (kind_of k)).children ≡ 2
     pub note_is : ParentNote k
 
   -- what the note says
   module _ (k : ℕ) (plain : eqb k 10 ≡ false) (h : ParentNote k) where
-    note_plain : get_or notes at 0 ≡ child_note R (statement_at left xs at).statement first
+    note_plain : get_or notes at no_note ≡ child_note R (statement_at left xs at).statement first (second_place (row_of (kind_of k)).children first)
     unfolding note_for
     note_plain = h.1 ∙ rw (h.0, plain)
 
-    pub note_ends : (b : Bool) → ends_of (get_or notes at 0) b ≡ can_end R b first.statement
-    note_ends b = ap (λ (n : ℕ). ends_of n b) note_plain ∙ ends_note R b (statement_at left xs at).statement first
+    pub note_ends : (b : Bool) → ends_of (get_or notes at no_note) b ≡ can_end R b first.statement
+    note_ends b = ap (λ (n : Note). ends_of n b) note_plain ∙ ends_note R b (statement_at left xs at).statement first (second_place (row_of (kind_of k)).children first)
 
-    pub note_place : second_of (get_or notes at 0) ≡ first.next
-    note_place = ap second_of note_plain ∙ second_note R (statement_at left xs at).statement first
+    pub note_place : (row_of (kind_of k)).children ≡ 2 → (get_or notes at no_note).second ≡ first.next
+    note_place e = ap (λ (n : Note). n.second) note_plain ∙ ap (λ (c : ℕ). second_place c first) e
 
-  pub note_kept : {inside : ℕ} → NotedOne 10 try inside → (b : Bool) → kept_of (get_or notes at 0) b ≡ ends_at 0 (trim R b first.statement)
+  pub note_kept : {inside : ℕ} → NotedOne 10 try inside → (b : Bool) → ends_of (get_or notes at no_note) b ≡ ends_at 0 (trim R b first.statement)
   unfolding note_for
-  note_kept o b = ap (λ (n : ℕ). kept_of n b) (o.note_is.1 ∙ rw o.note_is.0) ∙ try_kept R b (statement_at left xs at).statement first
+  note_kept o b =
+      let is : get_or notes at no_note ≡ try_note R (statement_at left xs at).statement first = o.note_is.1 ∙ rw o.note_is.0 in
+      ap (λ (n : Note). ends_of n b) is ∙ try_kept R b (statement_at left xs at).statement first
 
   module _ (tries : ℕ) (v : Valid tries (statement_at left xs at).statement) (h : Noted R notes xs left at) where
     one_node : (k : ℕ) (f : Statement → Statement) (inside : ℕ)
         → statement_at left xs at ≡ placed (f first.statement) first.next → (Valid tries (f first.statement) → Valid inside first.statement)
         → eqb (row_of (kind_of k)).children 0 ≡ false
-        → (get_or notes at 0 ≡ note_for R k (statement_at left xs at).statement first) × Noted R notes xs (left - 1) (at + 1) → NotedOne k f inside
+        → (get_or notes at no_note ≡ note_for R k (statement_at left xs at).statement first) × Noted R notes xs (left - 1) (at + 1) → NotedOne k f inside
     one_node k f inside e g c ns = record { is = e; valid = g (subst (λ (p : Placed). Valid tries p.statement) e v); noted = ns.1; note_is = (c, ns.0) }
 
     two_node : (k : ℕ) (f : Statement → Statement → Statement)
         → statement_at left xs at ≡ placed (f first.statement second.statement) second.next
         → (Valid tries (f first.statement second.statement) → Valid tries first.statement × Valid tries second.statement)
-        → eqb (row_of (kind_of k)).children 0 ≡ false
-        → (get_or notes at 0 ≡ note_for R k (statement_at left xs at).statement first) × (Noted R notes xs (left - 1) (at + 1) × Noted R notes xs (left - 1) first.next) → NotedTwo k f tries
+        → (row_of (kind_of k)).children ≡ 2
+        → (get_or notes at no_note ≡ note_for R k (statement_at left xs at).statement first) × (Noted R notes xs (left - 1) (at + 1) × Noted R notes xs (left - 1) first.next) → NotedTwo k f tries
     two_node k f e g c ns =
         let vs = g (subst (λ (p : Placed). Valid tries p.statement) e v) in
-        record { is = e; valid = vs.0; valid_second = vs.1; noted = ns.1.0; noted_second = ns.1.1; note_is = (c, ns.0) }
+        record { is = e; valid = vs.0; valid_second = vs.1; noted = ns.1.0; noted_second = ns.1.1; both = c; note_is = (ap (λ (n : ℕ). eqb n 0) c, ns.0) }
 
     pub one_signal : Node left xs at 5 → NotedOne 5 (signal (operand_of (get_or xs at 0))) tries
     unfolding place_kind kind_of kinds row_of Valid
@@ -141,7 +144,7 @@ module _ (R at left : ℕ) (a : Around) (places work : List ℕ) (to : ℕ) wher
       made_none : (work : List ℕ) → PartStands (map_exits (level_out places a) 0 nothing) work to (nothing_at to) work
       made_none work = made_nothing work to
 
-  pub trimmed_leaf : (t u : Statement) (x named : ℕ) (r : Part) (work' : List ℕ) → left ≢ 0
+  pub trimmed_leaf : (t u : Statement) (x named : ℕ) (r : Laid) (work' : List ℕ) → left ≢ 0
       → trimmed_in R places a t ≡ u → Leaf u x named → LeafPut x named work to r work'
       → Done R (placed t (at + 1)) at left a places work to r places work'
   trimmed_leaf t u x named r work' some is L P =
@@ -156,9 +159,9 @@ module _ (R at left : ℕ) (a : Around) (places work : List ℕ) (to : ℕ) wher
       }
 
   module _ (some : left ≢ 0) (w : to ≤ 4096) where
-    pub trimmed_one : (g : Statement → Statement) (x : ℕ) (z : Bool) (s : Statement) (p : Placed) (a' : Around) (places₁ places₂ work₁ work₂ : List ℕ) (v r : Part)
+    pub trimmed_one : (g : Statement → Statement) (x : ℕ) (z : Bool) (s : Statement) (p : Placed) (a' : Around) (places₁ places₂ work₁ work₂ : List ℕ) (v r : Laid)
         → trimmed_in R places a s ≡ wrap_if g z (trimmed_in R places₁ a' p.statement) → SamePlaces a.tries places places₂ → length places₁ ≡ length places
-        → Wraps g x → Done R p (at + 1) (left - 1) a' places₁ work to v places₂ work₁ → Wrapped x z work₁ to v r work₂
+        → Wraps g x → Done R p (at + 1) (left - 1) a' places₁ work to v places₂ work₁ → Wrapped x z work₁ v r work₂
         → Done R (placed s p.next) at left a places work to r places₂ work₂
     trimmed_one g x z s p a' places₁ places₂ work₁ work₂ v r is same long G P W =
         let room : to + 4 * (at + 1) ≤ v.from + 4 * p.next = P.room in
@@ -166,17 +169,17 @@ module _ (R at left : ℕ) (a : Around) (places work : List ℕ) (to : ℕ) wher
         let deep : v.depth ≤ 3 * (left - 1) = P.shallow in
         let deeper : r.depth ≤ v.depth + 2 = W.shallow in
         record {
-          made = subst (λ (u : Statement). PartStands u work to r work₂) (sym is) (W.made g (trimmed_in R places₁ a' p.statement) work G w P.made);
+          made = subst (λ (u : Statement). PartStands u work to r work₂) (sym is) (W.made g (trimmed_in R places₁ a' p.statement) work to G w P.made);
           room = omega arith;
           shallow = omega arith;
           same = same;
           long = P.long ∙ long;
         }
 
-    pub trimmed_two : (g : Statement → Statement → Statement) (x : ℕ) (s : Statement) (p q : Placed) (a' : Around) (places₁ places₂ work₁ work₂ work₃ : List ℕ) (u v r : Part)
+    pub trimmed_two : (g : Statement → Statement → Statement) (x : ℕ) (s : Statement) (p q : Placed) (a' : Around) (places₁ places₂ work₁ work₂ work₃ : List ℕ) (u v r : Laid)
         → a'.tries ≡ a.tries → trimmed_in R places a s ≡ join_parts g (trimmed_in R places a p.statement) (trimmed_in R places a' q.statement) → Joins g x 0
         → Done R q p.next (left - 1) a' places work to v places₁ work₁ → Done R p (at + 1) (left - 1) a places₁ work₁ v.from u places₂ work₂
-        → PartsJoined x work₂ to u v r work₃ → Done R (placed s q.next) at left a places work to r places₂ work₃
+        → PartsJoined x work₂ u v r work₃ → Done R (placed s q.next) at left a places work to r places₂ work₃
     trimmed_two g x s p q a' places₁ places₂ work₁ work₂ work₃ u v r tries is G Q P J =
         let same : SamePlaces a.tries places places₁ = λ i l. Q.same i (omega arith) in
         let room : v.from + 4 * (at + 1) ≤ u.from + 4 * p.next = P.room in
@@ -187,7 +190,7 @@ module _ (R at left : ℕ) (a : Around) (places work : List ℕ) (to : ℕ) wher
         let deeper : r.depth ≤ max u.depth v.depth + 1 = J.shallow in
         record {
           made = subst (λ (t : Statement). PartStands t work to r work₃) (sym is)
-              (J.made g (trimmed_in R places a p.statement) (trimmed_in R places a' q.statement) work work₁ G w Q.made
+              (J.made g (trimmed_in R places a p.statement) (trimmed_in R places a' q.statement) work work₁ to G w Q.made
               (subst (λ (t : Statement). PartStands t work₁ v.from u work₂) (trimmed_places R places places₁ a p.statement same) P.made));
           room = omega arith;
           shallow = omega arith;
@@ -195,11 +198,11 @@ module _ (R at left : ℕ) (a : Around) (places work : List ℕ) (to : ℕ) wher
           long = P.long ∙ Q.long;
         }
 
-    pub trimmed_branches : (z : Bool) (S : ℕ) (p q : Placed) (a' : Around) (places₁ places₂ work₁ work₂ work₃ work₄ : List ℕ) (u v e r : Part)
+    pub trimmed_branches : (z : Bool) (S : ℕ) (p q : Placed) (a' : Around) (places₁ places₂ work₁ work₂ work₃ work₄ : List ℕ) (u v e r : Laid)
         → a'.tries ≡ a.tries
         → trimmed_in R places a (present S p.statement q.statement) ≡ present_if a.started S (trimmed_in R places a p.statement) (branch_if a.started z (trimmed_in R places a' q.statement))
-        → Done R q p.next (left - 1) a' places work to v places₁ work₁ → ElseClosed a.started z work₁ to v e work₂
-        → Done R p (at + 1) (left - 1) a places₁ work₂ e.from u places₂ work₃ → PresentClosed a.started S work₃ to u e r work₄
+        → Done R q p.next (left - 1) a' places work to v places₁ work₁ → ElseClosed a.started z work₁ v e work₂
+        → Done R p (at + 1) (left - 1) a places₁ work₂ e.from u places₂ work₃ → PresentClosed a.started S work₃ u e r work₄
         → Done R (placed (present S p.statement q.statement) q.next) at left a places work to r places₂ work₄
     trimmed_branches z S p q a' places₁ places₂ work₁ work₂ work₃ work₄ u v e r tries is Q E P C =
         let same : SamePlaces a.tries places places₁ = λ i l. Q.same i (omega arith) in
@@ -214,8 +217,8 @@ module _ (R at left : ℕ) (a : Around) (places work : List ℕ) (to : ℕ) wher
         let deeper : r.depth ≤ max (u.depth + 1) e.depth + 1 = C.shallow in
         record {
           made = subst (λ (t : Statement). PartStands t work to r work₄) (sym is)
-              (C.made (trimmed_in R places a p.statement) (branch_if a.started z (trimmed_in R places a' q.statement)) work work₂ w
-              (E.made (trimmed_in R places a' q.statement) work w Q.made)
+              (C.made (trimmed_in R places a p.statement) (branch_if a.started z (trimmed_in R places a' q.statement)) work work₂ to w
+              (E.made (trimmed_in R places a' q.statement) work to w Q.made)
               (subst (λ (t : Statement). PartStands t work₂ e.from u work₃) (trimmed_places R places places₁ a p.statement same) P.made));
           room = omega arith;
           shallow = omega arith;
@@ -229,7 +232,7 @@ module _ (R at left : ℕ) (a : Around) (places work : List ℕ) (to : ℕ) wher
 
 -- ---- what the calls ask
 
-module _ {R : ℕ} {xs notes : List ℕ} {at left : ℕ} {a : Around} {places work : List ℕ} {to : ℕ} (N : Trimmable R xs notes at left a places work to) (some : left ≢ 0) where
+module _ {R : ℕ} {xs : List ℕ} {notes : List Note} {at left : ℕ} {a : Around} {places work : List ℕ} {to : ℕ} (N : Trimmable R xs notes at left a places work to) (some : left ≢ 0) where
   pub one_ready : {k : ℕ} {f : Statement → Statement} {inside : ℕ} → NotedOne R xs notes at left k f inside → (a' : Around) (places' : List ℕ) → a'.tries ≡ inside
       → a'.tries ≤ a.tries + 1 → a'.kept ≤ a.kept + 1 → length places' ≡ length places → LowPlaces places' a'
       → Caught R places' a' (statement_at (left - 1) xs (at + 1)).statement → Trimmable R xs notes (at + 1) (left - 1) a' places' work to
@@ -276,7 +279,7 @@ module _ {R : ℕ} {xs notes : List ℕ} {at left : ℕ} {a : Around} {places wo
           caught = caught;
         })
 
-    pub first_ready : Caught R places a (statement_at (left - 1) xs (at + 1)).statement → {a' : Around} {v : Part} {places₁ work₁ : List ℕ} → Done R (statement_at (left - 1) xs mid) mid (left - 1) a' places work to v places₁ work₁
+    pub first_ready : Caught R places a (statement_at (left - 1) xs (at + 1)).statement → {a' : Around} {v : Laid} {places₁ work₁ : List ℕ} → Done R (statement_at (left - 1) xs mid) mid (left - 1) a' places work to v places₁ work₁
         → a'.tries ≡ a.tries → (to' : ℕ) (work' : List ℕ) → v.from ≤ to' + 4 → to' ≤ 4096
         → Trimmable R xs notes (at + 1) (left - 1) a places₁ work' to'
     first_ready caught Q t to' work' h g =
@@ -295,10 +298,10 @@ module _ {R : ℕ} {xs notes : List ℕ} {at left : ℕ} {a : Around} {places wo
         }
 
   -- ---- the room and the depth that the last steps ask
-  ends_in : {t : Statement} {work₁ work₂ : List ℕ} {to₁ : ℕ} {v : Part} → PartStands t work₁ to₁ v work₂ → v.from ≤ to₁
+  ends_in : {t : Statement} {work₁ work₂ : List ℕ} {to₁ : ℕ} {v : Laid} → PartStands t work₁ to₁ v work₂ → v.from ≤ to₁
   ends_in M = let e = M.puts.from_is in omega arith
 
-  pub one_room : {k : ℕ} {f : Statement → Statement} {inside : ℕ} → NotedOne R xs notes at left k f inside → {a' : Around} {places₁ places₂ work₁ : List ℕ} {v : Part}
+  pub one_room : {k : ℕ} {f : Statement → Statement} {inside : ℕ} → NotedOne R xs notes at left k f inside → {a' : Around} {places₁ places₂ work₁ : List ℕ} {v : Laid}
       → Done R (statement_at (left - 1) xs (at + 1)) (at + 1) (left - 1) a' places₁ work to v places₂ work₁
       → (2 ≤ v.from) × (v.from ≤ 4096) × (v.depth ≤ 200)
   one_room o P =
@@ -311,7 +314,7 @@ module _ {R : ℕ} {xs notes : List ℕ} {at left : ℕ} {a : Around} {places wo
       let e = ends_in P.made in
       (omega arith, omega arith, omega arith)
 
-  module _ {k : ℕ} {f : Statement → Statement → Statement} (o : NotedTwo R xs notes at left k f a.tries) {a' : Around} {places₁ work₁ : List ℕ} {v : Part}
+  module _ {k : ℕ} {f : Statement → Statement → Statement} (o : NotedTwo R xs notes at left k f a.tries) {a' : Around} {places₁ work₁ : List ℕ} {v : Laid}
       (Q : Done R (statement_at (left - 1) xs (mid o)) (mid o) (left - 1) a' places work to v places₁ work₁) where
     second_room : 4 * mid o ≤ v.from + 4 * at
     second_room = let r = N.room in let s = Q.room in omega (arith, next_is o)
@@ -331,7 +334,7 @@ module _ {R : ℕ} {xs notes : List ℕ} {at left : ℕ} {a : Around} {places wo
         let i = N.to_in in
         first_ready o caught Q t v.from work₁ (omega arith) (omega (arith, second_ends))
 
-    pub join_room : {places₂ work₂ : List ℕ} {u : Part} → Done R (statement_at (left - 1) xs (at + 1)) (at + 1) (left - 1) a places₁ work₁ v.from u places₂ work₂
+    pub join_room : {places₂ work₂ : List ℕ} {u : Laid} → Done R (statement_at (left - 1) xs (at + 1)) (at + 1) (left - 1) a places₁ work₁ v.from u places₂ work₂
         → (1 ≤ u.from) × (u.from ≤ 4096) × (u.depth ≤ 200) × (v.depth ≤ 200)
     join_room P =
         let i = N.to_in in
@@ -341,7 +344,7 @@ module _ {R : ℕ} {xs notes : List ℕ} {at left : ℕ} {a : Around} {places wo
         let e = ends_in P.made in
         (omega (arith, second_room), omega (arith, second_ends), omega arith, else_room.2)
 
-    module _ {z : Bool} {work₂ : List ℕ} {e : Part} (E : ElseClosed a.started z work₁ to v e work₂) where
+    module _ {z : Bool} {work₂ : List ℕ} {e : Laid} (E : ElseClosed a.started z work₁ v e work₂) where
       branch_ends : (b : Bool) (t : Statement) → Branch b t work to e work₂ → e.from ≤ to
       branch_ends true t W = let h = W.puts.from_is in omega arith
       branch_ends false t M = ends_in M
@@ -349,7 +352,7 @@ module _ {R : ℕ} {xs notes : List ℕ} {at left : ℕ} {a : Around} {places wo
       else_ends : e.from ≤ to
       else_ends =
           branch_ends a.started (branch_if a.started z (trimmed_in R places a' (statement_at (left - 1) xs (mid o)).statement))
-          (E.made (trimmed_in R places a' (statement_at (left - 1) xs (mid o)).statement) work N.to_in Q.made)
+          (E.made (trimmed_in R places a' (statement_at (left - 1) xs (mid o)).statement) work to N.to_in Q.made)
 
       three : (b : Bool) → cond b 1 3 ≤ 3
       three true = omega arith
@@ -365,7 +368,7 @@ module _ {R : ℕ} {xs notes : List ℕ} {at left : ℕ} {a : Around} {places wo
       four true = omega arith
       four false = omega arith
 
-      pub present_room : {places₂ work₃ : List ℕ} {u : Part} → Done R (statement_at (left - 1) xs (at + 1)) (at + 1) (left - 1) a places₁ work₂ e.from u places₂ work₃
+      pub present_room : {places₂ work₃ : List ℕ} {u : Laid} → Done R (statement_at (left - 1) xs (at + 1)) (at + 1) (left - 1) a places₁ work₂ e.from u places₂ work₃
           → (S : ℕ) → S ≤ 31 → (cond a.started 2 1 ≤ u.from) × (u.from ≤ 4096) × (u.depth ≤ 200) × (e.depth ≤ 200) × (S ≤ 31)
       present_room P S h =
           let i = N.to_in in

@@ -1,18 +1,17 @@
 -- What trim answers, and what it leaves in the caller's buffer, for all bytes and every buffer.
-use Rattle.std.specs.Prelude.{ℕ, cond, ◌||◌, List, [], ◌∷◌, ltb, length}
+use Rattle.std.specs.Prelude.{ℕ, cond, ◌||◌, Result, List, [], ◌∷◌, ltb, length}
 use Rattle.esterel.specs.Statement.{Statement, size, depth}
 use Rattle.esterel.specs.Trimming.{trimmed}
 use Rattle.esterel.specs.Shares.{thousandths, remainder}
-use Rattle.table.specs.Outcomes.{Outcome, refusal, values, buffer_after}
+use Rattle.table.specs.Outcomes.{Outcome, refusal, values, outcome, buffer_after}
 use Rattle.table.specs.Reading.{Table, refused, holds, table_of, deepest}
 use Rattle.table.specs.Writing.{write}
-use Rattle.trim.specs.declared.Trimmed.{Trimmed}
-use Rattle.trim.specs.declared.Trimmed.TheVariants.{Refused, Accepted}
+use Rattle.table.specs.declared.Refusal.{Refusal}
+use Rattle.trim.specs.declared.Written.{Written}
 
 -- what is said of an answer of trim, case by case: the refusal; or the node count, the byte length, and the share that was kept
-unfoldable pub trimmed_outcome : Trimmed → Outcome
-trimmed_outcome (Refused w) = refusal w
-trimmed_outcome (Accepted written) = values (written.nodes ∷ written.bytes ∷ written.share.thousandths ∷ written.share.remainder ∷ [])
+unfoldable pub trimmed_outcome : Result Written Refusal → Outcome
+trimmed_outcome = outcome (λ written. written.nodes ∷ written.bytes ∷ written.share.thousandths ∷ written.share.remainder ∷ [])
 
 -- "Accepted: node count, byte length", of the trimmed statement q; order 4: "Trim also returns the quotient and the remainder of
 -- 1,000 × (nodes after) divided by (nodes before)", where n are those of the table

@@ -1,156 +1,171 @@
 // The descent over the tree that trims it. Each node is looked at at most once: its note says whether anything may be left of it, where
 // its second child stands and whether its first can end, or whether a try is kept, so an exit gets its level at once.
-ghost use Rattle.std.specs.Prelude.{◌≡◌, ◌||◌, ◌+◌, ◌≤◌, ◌<◌};
+ghost use Rattle.std.specs.Prelude.{◌≡◌, ◌+◌, ◌≤◌, ◌<◌};
 ghost use Rattle.table.specs.inner.Places.{statement_at};
 ghost use Rattle.trim.specs.inner.Levels.{level_out, started_if, in_else, in_try, places_in};
-ghost use Rattle.trim.specs.inner.Parts.{reach_set_of, ExitReady, Trimmable, Done};
+ghost use Rattle.trim.specs.inner.Parts.{reach_set_of, laid_at, ExitReady, Trimmable, Done};
 
-use crate::work::Part;
-use crate::{noted, work};
-use esterel::{Label, Level};
+use crate::noted::Note;
+use crate::work::{Part, Work};
+use esterel::Level;
 
 // The places that are noted of try statements, by their numbers from 1: at most 59 stand around a statement.
 pub const PLACES: usize = 64;
 
 // What stands around a statement that is trimmed: whether it may be started, the try statements of the source, and how
 // many try statements stand around it in the trimmed table.
-#[derive(Clone, Copy)]
+#[derive(Clone, Copy, Debug, PartialEq, Eq)]
 pub struct Around {
     pub started: bool,
     pub tries: usize,
     pub kept: u8,
 }
 
-fn with_started(around: Around, started: bool) -> Around
-    ensures { result ≡ started_if started around }
-{
-    Around {
-        started,
-        tries: around.tries,
-        kept: around.kept,
+impl Around {
+    // Around a whole program.
+    pub const PROGRAM: Around = Around {
+        started: true,
+        tries: 0,
+        kept: 0,
+    };
+
+    fn started_if(self, started: bool) -> Around
+        ensures { result ≡ started_if started self }
+    {
+        Around { started, ..self }
+    }
+
+    // Around the else branch of a present.
+    fn in_else(self, guarded: bool) -> Around
+        requires { self.kept ≤ 60 }
+        ensures { result ≡ in_else guarded self }
+    {
+        if self.started {
+            return self;
+        }
+        if !guarded {
+            return self;
+        }
+        Around {
+            kept: self.kept + 1,
+            ..self
+        }
+    }
+
+    // Around the body of a try, whose place is noted.
+    fn in_try(self, places: &mut [u8; PLACES], kept: bool) -> Around
+        requires { (self.tries + 1 < 64) × (self.kept ≤ 60) }
+        ensures { (result ≡ in_try kept self) × (places.new ≡ places_in self places.old) }
+    {
+        let tries = self.tries + 1;
+        places[tries] = self.kept;
+        if kept {
+            return Around {
+                tries,
+                kept: self.kept + 1,
+                ..self
+            };
+        }
+        Around { tries, ..self }
+    }
+
+    // The level in the trimmed table of an exit of the source.
+    fn level_out(self, places: &[u8; PLACES], level: Level) -> Level
+        requires { ExitReady places.now self level.0 }
+        ensures { result.0 ≡ level_out places.now self level.0 }
+    {
+        let number = self.tries + 1 - level.0 as usize;
+        Level(self.kept - places[number])
     }
 }
 
-// Around the else branch of a present.
-fn in_else(around: Around, guarded: bool) -> Around
-    requires { around.kept ≤ 60 }
-    ensures { result ≡ in_else guarded around }
-{
-    if around.started {
-        return around;
-    }
-    if !guarded {
-        return around;
-    }
-    Around {
-        started: around.started,
-        tries: around.tries,
-        kept: around.kept + 1,
-    }
+// What a descent writes: the places of the try statements around, and the trimmed nodes.
+#[derive(Drop)]
+pub struct Room {
+    pub places: [u8; PLACES],
+    pub work: Work,
 }
 
-// Around the body of a try, whose place is noted.
-fn in_try(places: &mut [u8; PLACES], around: Around, kept: bool) -> Around
-    requires { (around.tries + 1 < 64) × (around.kept ≤ 60) }
-    ensures { (result ≡ in_try kept around) × (places.new ≡ places_in around places.old) }
-{
-    let tries = around.tries + 1;
-    places[tries] = around.kept;
-    if kept {
-        return Around {
-            started: around.started,
-            tries,
-            kept: around.kept + 1,
-        };
-    }
-    Around {
-        started: around.started,
-        tries,
-        kept: around.kept,
-    }
+// What it reads: the nodes of the source, and their notes.
+#[derive(Clone, Copy)]
+pub struct Source<'a> {
+    pub nodes: &'a [u16; table::MOST_NODES],
+    pub notes: &'a [Note; table::MOST_NODES],
 }
 
-// The level in the trimmed table of an exit of the source.
-fn level_out(places: &[u8; PLACES], around: Around, level: Level) -> Level
-    requires { ExitReady places.now around level.0 }
-    ensures { result.0 ≡ level_out places.now around level.0 }
-{
-    let number = around.tries + 1 - level.0 as usize;
-    Level(around.kept - places[number])
-}
-
-// Writes the trimmed statement at a place into the work area, so that it ends at `to`. The second child is written first,
-// so nothing is ever moved. Of a statement that is neither started nor live nothing is left; so a leaf past that test is kept:
-// a pause is started or has its label in R, and the others are started, since they are never live.
-pub fn trim_at(
-    nodes: &[u16; table::MOST_NODES],
-    notes: &[u16; table::MOST_NODES],
-    at: usize,
-    left: usize,
-    around: Around,
-    places: &mut [u8; PLACES],
-    work: &mut [u16; table::MOST_NODES],
-    to: usize,
-) -> Part
-    requires { Trimmable (reach_set_of nodes.now) nodes.now notes.now at left around places.old work.old to }
-    ensures { Done (reach_set_of nodes.now) (statement_at left nodes.now at) at left around places.old work.old to result places.new work.new }
-{
-    if left == 0 || table::MOST_NODES <= at {
-        return work::nothing(to);
-    }
-    let node = nodes[at];
-    let note = notes[at];
-    let b = around.started;
-    if !noted::may_stay(note, b) {
-        return work::nothing(to);
-    }
-    let operand = table::operand_of(node);
-    let first = at + 1;
-    let second = noted::second_place(note);
-    let below = left - 1;
-    match table::kind_of(node) {
-        table::NOTHING => work::nothing(to),
-        table::PAUSE => work::put_label(work, to, table::PAUSE, Label(operand)),
-        table::GOTOPAUSE => work::put_label(work, to, table::GOTOPAUSE, Label(operand)),
-        table::EMIT => work::put_leaf(work, to, table::EMIT, operand, sets::singleton(operand)),
-        table::EXIT => work::put_exit(work, to, level_out(places, around, Level(operand))),
-        table::SIGNAL => {
-            let p = trim_at(nodes, notes, first, below, around, places, work, to);
-            let named = sets::contains(p.named, operand);
-            work::wrap_if(work, p, to, named, table::SIGNAL, operand)
+impl Source<'_> {
+    // Writes the trimmed statement at a place into the work area, in front of what stands there.
+    // The second child is written first, so nothing is ever moved. Of a statement that is neither started nor live nothing is left; so
+    // a leaf past that test is kept: a pause is started or has its label in R, and the others are started, since they are never live.
+    pub fn trim_at(self, at: usize, left: usize, around: Around, room: &mut Room) -> Part
+        requires { Trimmable (reach_set_of self.nodes.now) self.nodes.now self.notes.now at left around room.old.places room.old.work.nodes room.old.work.from }
+        ensures { Done (reach_set_of self.entry.nodes.now) (statement_at left self.entry.nodes.now at) at left around
+            room.old.places room.old.work.nodes room.old.work.from (laid_at room.new.work.from result) room.new.places room.new.work.nodes }
+    {
+        if left == 0 || table::MOST_NODES <= at {
+            return Part::NOTHING;
         }
-        table::PRESENT => {
-            let guarded = noted::can_end(note, false);
-            let inner = in_else(around, guarded);
-            let q = trim_at(nodes, notes, second, below, inner, places, work, to);
-            let e = work::close_else(work, q, to, b, guarded);
-            let p = trim_at(nodes, notes, first, below, around, places, work, e.from);
-            work::close_present(work, p, e, to, b, operand)
+        let node = self.nodes[at];
+        let note = self.notes[at];
+        let b = around.started;
+        if !note.may_stay(b) {
+            return Part::NOTHING;
         }
-        table::SEQUENCE => {
-            let inner = with_started(around, noted::can_end(note, b));
-            let q = trim_at(nodes, notes, second, below, inner, places, work, to);
-            let p = trim_at(nodes, notes, first, below, around, places, work, q.from);
-            work::join_parts(work, p, q, to, table::SEQUENCE)
+        let operand = table::operand_of(node);
+        let first = at + 1;
+        let second = note.second();
+        let below = left - 1;
+        // One decision over the kind numbers, with 11 to 15 as a refused range, as document 01 asks.
+        match table::kind_of(node) {
+            table::NOTHING => Part::NOTHING,
+            table::PAUSE => room.work.leaf(table::PAUSE, operand, 0),
+            table::GOTOPAUSE => room.work.leaf(table::GOTOPAUSE, operand, 0),
+            table::EMIT => {
+                room.work
+                    .leaf(table::EMIT, operand, sets::singleton(operand))
+            }
+            table::EXIT => {
+                let level = around.level_out(&room.places, Level(operand));
+                room.work.leaf(table::EXIT, level.0, 0)
+            }
+            table::SIGNAL => {
+                let p = self.trim_at(first, below, around, room);
+                let named = sets::contains(p.named, operand);
+                room.work.wrap_if(p, named, table::SIGNAL, operand)
+            }
+            table::PRESENT => {
+                let guarded = note.ends(false);
+                let inner = around.in_else(guarded);
+                let q = self.trim_at(second, below, inner, room);
+                let e = room.work.close_else(q, b, guarded);
+                let p = self.trim_at(first, below, around, room);
+                room.work.close_present(p, e, b, operand)
+            }
+            table::SEQUENCE => {
+                let inner = around.started_if(note.ends(b));
+                let q = self.trim_at(second, below, inner, room);
+                let p = self.trim_at(first, below, around, room);
+                room.work.join(p, q, table::SEQUENCE)
+            }
+            table::PARALLEL => {
+                let q = self.trim_at(second, below, around, room);
+                let p = self.trim_at(first, below, around, room);
+                room.work.join(p, q, table::PARALLEL)
+            }
+            table::LOOP => {
+                let again = note.ends(b);
+                let inner = around.started_if(again | b);
+                let p = self.trim_at(first, below, inner, room);
+                room.work.wrap_if(p, again, table::LOOP, 0)
+            }
+            table::TRY => {
+                let kept = note.ends(b);
+                let inner = around.in_try(&mut room.places, kept);
+                let p = self.trim_at(first, below, inner, room);
+                room.work.wrap_if(p, kept, table::TRY, 0)
+            }
+            11..=15 => Part::REFUSED,
+            _ => Part::REFUSED,
         }
-        table::PARALLEL => {
-            let q = trim_at(nodes, notes, second, below, around, places, work, to);
-            let p = trim_at(nodes, notes, first, below, around, places, work, q.from);
-            work::join_parts(work, p, q, to, table::PARALLEL)
-        }
-        table::LOOP => {
-            let again = noted::can_end(note, b);
-            let inner = with_started(around, again | b);
-            let p = trim_at(nodes, notes, first, below, inner, places, work, to);
-            work::wrap_if(work, p, to, again, table::LOOP, 0)
-        }
-        table::TRY => {
-            let kept = noted::keeps_try(note, b);
-            let inner = in_try(places, around, kept);
-            let p = trim_at(nodes, notes, first, below, inner, places, work, to);
-            work::wrap_if(work, p, to, kept, table::TRY, 0)
-        }
-        11..=15 => work::refused(to),
-        _ => work::refused(to),
     }
 }

@@ -12,23 +12,18 @@ mod marks;
 mod noted;
 mod work;
 
-ghost use Rattle.std.specs.Prelude.{◌≡◌, ◌≤◌, length};
+ghost use Rattle.std.specs.Prelude.{◌≡◌, ◌≤◌, length, IsOkAnd};
 ghost use Rattle.esterel.specs.Trimming.{trimmed};
-ghost use Rattle.table.specs.Outcomes.{number_of};
 ghost use Rattle.table.specs.inner.Places.{statement_of, Known, Loaded};
 ghost use Rattle.trim.specs.Answers.{trimmed_outcome, trim_of, buffer_of};
-ghost use Rattle.trim.specs.inner.Root.{Lent, LaidOut, EndFits, Finished};
+ghost use Rattle.trim.specs.inner.Parts.{laid_at};
+ghost use Rattle.trim.specs.inner.Root.{Lent, Ends, EndFits, Finished};
 
-use descent::Around;
+use descent::{Around, Room, Source};
 use esterel::Share;
-use reach::Analysed;
-use table::Checked;
-use work::{Laid, Part};
-
-// "12 the trimmed table has over 1,024 nodes or depth over 60; 13 the output buffer is shorter than the trimmed table."
-const TOO_LARGE: u8 = 12;
-
-const TOO_SHORT: u8 = 13;
+use noted::Note;
+use table::Refusal;
+use work::{Part, Work};
 
 // A trimmed table: its nodes, its length in bytes, and the share of the source that it keeps.
 #[derive(Clone, Copy)]
@@ -38,113 +33,88 @@ pub struct Written {
     pub share: Share,
 }
 
-// Trim's answer: the number of the refusal, or what the buffer begins with.
-#[derive(Clone, Copy)]
-pub enum Trimmed {
-    Refused(u8),
-    Accepted(Written),
-}
-
-// The number of an answer of trim: the refusal, 0 where the table is accepted.
-pub fn refusal(answer: Trimmed) -> u8
-    ensures { result ≡ number_of (trimmed_outcome answer) }
-{
-    match answer {
-        Trimmed::Refused(why) => why,
-        Trimmed::Accepted(_) => 0,
-    }
-}
-
 // Trims the statement that the nodes hold, to the end of the work area.
 fn trim_nodes(
     nodes: &[u16; table::MOST_NODES],
-    notes: &mut [u16; table::MOST_NODES],
-    places: &mut [u8; descent::PLACES],
-    work: &mut [u16; table::MOST_NODES],
-) -> Laid
+    notes: &mut [Note; table::MOST_NODES],
+    room: &mut Room,
+) -> Result<Part, Refusal>
     requires loaded { Loaded nodes.now }
-    requires lent { Lent notes.old places.old work.old }
-    ensures { LaidOut (trimmed (statement_of nodes.now)) result work.new }
+    requires lent { Lent notes.old room.old }
+    ensures { IsOkAnd result (λ part. Ends (trimmed (statement_of nodes.now)) (laid_at room.new.work.from part) room.new.work.nodes) }
 {
-    let analysed = reach::settle(nodes);
-    let Analysed::Rest(found) = analysed else {
-        return Laid::Refused;
-    };
+    let found = reach::settle(nodes)?;
     let marked = marks::mark_at(nodes, 0, table::DEEPEST, notes, found.set);
-    if marks::is_refused(marked) {
-        return Laid::Refused;
+    if marked.is_refused() {
+        return Err(Refusal::Kind);
     }
-    let around = Around {
-        started: true,
-        tries: 0,
-        kept: 0,
-    };
-    let to = work::END;
-    let part = descent::trim_at(nodes, notes, 0, table::DEEPEST, around, places, work, to);
-    if work::is_refused(part) {
-        return Laid::Refused;
+    let source = Source { nodes, notes };
+    let part = source.trim_at(0, table::DEEPEST, Around::PROGRAM, room);
+    if part.is_refused() {
+        return Err(Refusal::Kind);
     }
-    Laid::At(work::fill(work, part, to))
+    Ok(room.work.fill(part))
 }
 
 // The answer for the statement at the end of the work area, whose table is written where it fits; the source has `before` nodes.
-fn finish(before: u16, work: &[u16], part: Part, out: &mut [u8]) -> Trimmed
-    requires { (1 ≤ before) × EndFits part work.now }
-    ensures { Finished before work.now part out.old result out.new }
+fn finish(before: u16, work: &Work, part: Part, out: &mut [u8]) -> Result<Written, Refusal>
+    requires { (1 ≤ before) × EndFits (laid_at work.now.from part) work.now.nodes }
+    ensures { Finished before work.now.nodes (laid_at work.now.from part) out.old result out.new }
 {
-    let from = part.from;
+    let from = work.from;
     let count = work::END - from;
     if table::MOST_NODES < count {
-        return Trimmed::Refused(TOO_LARGE);
+        return Err(Refusal::Size);
     }
     if table::DEEPEST < part.depth as usize {
-        return Trimmed::Refused(TOO_LARGE);
+        return Err(Refusal::Size);
     }
     let bytes = table::length_of(count);
     if out.len() < bytes {
-        return Trimmed::Refused(TOO_SHORT);
+        return Err(Refusal::Room);
     }
     let nodes = count as u16;
     let first = from - work::HELD;
-    table::write_nodes(&work[first..], out);
-    let share = esterel::share_of(before, nodes);
-    Trimmed::Accepted(Written {
+    table::write_nodes(&work.nodes[first..], out);
+    let share = Share::of(before, nodes);
+    Ok(Written {
         nodes,
         bytes,
         share,
     })
 }
 
-// Trim, with room lent for the nodes, what is noted of them, the places of try statements and the trimmed nodes.
+// Trim, with room lent for the nodes, what is noted of them, and what the descent writes.
 fn trim_with(
     table: &[u8],
     out: &mut [u8],
     nodes: &mut [u16; table::MOST_NODES],
-    notes: &mut [u16; table::MOST_NODES],
-    places: &mut [u8; descent::PLACES],
-    work: &mut [u16; table::MOST_NODES],
-) -> Trimmed
-    requires { (length nodes.old ≡ 1024) × Known nodes.old × Lent notes.old places.old work.old }
+    notes: &mut [Note; table::MOST_NODES],
+    room: &mut Room,
+) -> Result<Written, Refusal>
+    requires { (length nodes.old ≡ 1024) × Known nodes.old × Lent notes.old room.old }
     ensures { (trimmed_outcome result ≡ trim_of table.now (length out.old)) × (out.new ≡ buffer_of table.now out.old) }
 {
     let checked = table::load(table, nodes);
-    let Checked::Accepted(before) = checked else {
-        return Trimmed::Refused(table::refusal(checked));
+    let Ok(before) = checked else {
+        return Err(checked.unwrap_err());
     };
-    let laid = trim_nodes(nodes, notes, places, work);
-    let Laid::At(part) = laid else {
-        return Trimmed::Refused(table::NO_KIND);
-    };
-    finish(before, work, part, out)
+    let part = trim_nodes(nodes, notes, room)?;
+    finish(before, &room.work, part, out)
 }
 
 // Trims a table into the buffer.
-pub fn trim(table: &[u8], out: &mut [u8]) -> Trimmed
+pub fn trim(table: &[u8], out: &mut [u8]) -> Result<Written, Refusal>
     ensures { (trimmed_outcome result ≡ trim_of table.now (length out.old)) × (out.new ≡ buffer_of table.now out.old) }
 {
     let mut nodes = [0u16; table::MOST_NODES];
-    let mut notes = [0u16; table::MOST_NODES];
-    let mut places = [0u8; descent::PLACES];
-    let mut work = [0u16; table::MOST_NODES];
-    trim_with(table, out, &mut nodes, &mut notes, &mut places, &mut work)
+    let mut notes = [Note::NONE; table::MOST_NODES];
+    let mut room = Room {
+        places: [0; descent::PLACES],
+        work: Work {
+            nodes: [0; table::MOST_NODES],
+            from: work::END,
+        },
+    };
+    trim_with(table, out, &mut nodes, &mut notes, &mut room)
 }

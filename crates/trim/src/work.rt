@@ -1,11 +1,11 @@
-// The steps of trimming in the work area, which is filled from its end: a part is written right before what follows it,
+// The steps of trimming in the work area, which is filled from its end: a part is written right before what stands there,
 // the parent after its children, so nothing is ever moved.
-ghost use Rattle.std.specs.Prelude.{◌≡◌, cond, ◌-◌, ◌≤◌, ◌<◌};
+ghost use Rattle.std.specs.Prelude.{◌≡◌, ℕ, cond, ◌≤◌, eqb, length};
 ghost use Rattle.sets.specs.Set.{has};
 ghost use Rattle.table.specs.Writing.{node};
-ghost use Rattle.trim.specs.inner.Parts.{held_with, nothing_at, refused_at, Fitting, LeafPut, NothingFilled, Wrapped, PartsJoined, ElseClosed, PresentClosed};
+ghost use Rattle.trim.specs.inner.Parts.{laid_at, Shallow, Fitting, PutAt, LeafPut, NothingFilled, Wrapped, PartsJoined, ElseClosed, PresentClosed};
 
-use esterel::{Label, Level};
+use esterel::Level;
 
 // Where the trimmed statement ends. Places are counted down from here; a node of the source takes at most four.
 pub const END: usize = 4096;
@@ -14,217 +14,164 @@ pub const END: usize = 4096;
 // is counted and not held, since its table is refused.
 pub const HELD: usize = 3072;
 
-// A number that no signal has: it is among those that a part names where a node of no kind was met.
+// A number that no signal has: it is among those that a part names where a node of no kind was met. (A Result of a part made
+// trimming up to 20 % slower.)
 const REFUSED: u8 = 63;
 
-// A trimmed part in the work area: where its nodes begin, its depth, and the signals that its emits and presents name.
-#[derive(Clone, Copy)]
+// A trimmed part in the work area: its depth, and the signals that its emits and presents name. A part that is nothing has no
+// node, and depth 0.
+#[derive(Clone, Copy, Debug, PartialEq, Eq)]
 pub struct Part {
-    pub from: usize,
     pub depth: u16,
     pub named: u64,
 }
 
-// Where the trimmed statement stands.
-#[derive(Clone, Copy)]
-pub enum Laid {
-    // A node was of no kind.
-    Refused,
-    At(Part),
-}
+impl Part {
+    pub const NOTHING: Part = Part { depth: 0, named: 0 };
 
-// A part that is nothing has no node.
-pub fn nothing(to: usize) -> Part
-    ensures { result ≡ nothing_at to }
-{
-    Part {
-        from: to,
+    // What is made of a node of no kind. What a part names is named by every part around it, so the root tells.
+    pub const REFUSED: Part = Part {
         depth: 0,
-        named: 0,
+        named: 1 << REFUSED,
+    };
+
+    // Whether a node of no kind was met on the way to the part.
+    pub fn is_refused(self) -> bool
+        ensures { result ≡ has self.named 63 }
+    {
+        sets::contains(self.named, REFUSED)
+    }
+
+    fn is_nothing(self) -> bool
+        ensures { result ≡ eqb self.depth 0 }
+    {
+        self.depth == 0
     }
 }
 
-// What is made of a node of no kind. What a part names is named by every part around it, so the root tells.
-pub fn refused(to: usize) -> Part
-    ensures { result ≡ refused_at to }
-{
-    Part {
-        from: to,
-        depth: 0,
-        named: sets::singleton(REFUSED),
-    }
+// The work area, and the place from which it is filled.
+#[derive(Drop)]
+pub struct Work {
+    pub nodes: [u16; table::MOST_NODES],
+    pub from: usize,
+    ghost within: { from ≤ 4096 },
+    ghost full: { length nodes ≡ 1024 },
 }
 
-// Whether a node of no kind was met on the way to the part.
-pub fn is_refused(p: Part) -> bool
-    ensures { result ≡ has p.named 63 }
-{
-    sets::contains(p.named, REFUSED)
-}
+impl Work {
+    // One node in front of what stands there. Its operand is in the range of its kind, so `node_of` leaves it as it is.
+    fn put(&mut self, kind: u16, operand: u8)
+        requires room { 1 ≤ self.old.from }
+        requires fitting { Fitting kind operand }
+        ensures { PutAt self.old.nodes self.old.from (node kind operand) self.new.from self.new.nodes }
+    {
+        self.from -= 1;
+        if HELD <= self.from {
+            self.nodes[self.from - HELD] = table::node_of(kind, operand);
+        }
+    }
 
-// One node in front of what stands from a place on. Its operand is in the range of its kind, so `node_of` leaves it as it is.
-fn put(work: &mut [u16; table::MOST_NODES], from: usize, kind: u16, operand: u8) -> usize
-    requires { (1 ≤ from) × (from ≤ 4096) × Fitting kind operand }
-    ensures { (result ≡ from - 1) × (work.new ≡ held_with work.old (from - 1) (node kind operand)) }
-{
-    let at = from - 1;
-    if at < HELD {
-        return at;
+    // A statement of one node.
+    pub fn leaf(&mut self, kind: u16, operand: u8, named: u64) -> Part
+        requires room { 1 ≤ self.old.from }
+        requires fitting { Fitting kind operand }
+        ensures { LeafPut (node kind operand) named self.old.nodes self.old.from (laid_at self.new.from result) self.new.nodes }
+    {
+        self.put(kind, operand);
+        Part { depth: 1, named }
     }
-    work[at - HELD] = table::node_of(kind, operand);
-    at
-}
 
-// A statement of one node.
-pub fn put_leaf(
-    work: &mut [u16; table::MOST_NODES],
-    to: usize,
-    kind: u16,
-    operand: u8,
-    named: u64,
-) -> Part
-    requires { (1 ≤ to) × (to ≤ 4096) × Fitting kind operand }
-    ensures { LeafPut (node kind operand) named work.old to result work.new }
-{
-    Part {
-        from: put(work, to, kind, operand),
-        depth: 1,
-        named,
+    // Nothing gets its node where a statement has to stand.
+    pub fn fill(&mut self, p: Part) -> Part
+        requires { 1 ≤ self.old.from }
+        ensures { NothingFilled self.old.nodes (laid_at self.old.from p) (laid_at self.new.from result) self.new.nodes }
+    {
+        if p.is_nothing() {
+            self.put(table::NOTHING, 0);
+            return Part { depth: 1, ..p };
+        }
+        p
     }
-}
 
-// A pause or a gotopause.
-pub fn put_label(work: &mut [u16; table::MOST_NODES], to: usize, kind: u16, label: Label) -> Part
-    requires { (1 ≤ to) × (to ≤ 4096) × Fitting kind label.0 }
-    ensures { LeafPut (node kind label.0) 0 work.old to result work.new }
-{
-    put_leaf(work, to, kind, label.0, 0)
-}
+    // The part alone, or a statement over it.
+    pub fn wrap_if(&mut self, p: Part, wrap: bool, kind: u16, operand: u8) -> Part
+        requires room { 2 ≤ self.old.from }
+        requires shallow { Shallow p }
+        requires fitting { Fitting kind operand }
+        ensures { Wrapped (node kind operand) wrap self.old.nodes (laid_at self.old.from p) (laid_at self.new.from result) self.new.nodes }
+    {
+        if !wrap {
+            return p;
+        }
+        let whole = self.fill(p);
+        self.put(kind, operand);
+        Part {
+            depth: whole.depth + 1,
+            ..whole
+        }
+    }
 
-pub fn put_exit(work: &mut [u16; table::MOST_NODES], to: usize, level: Level) -> Part
-    requires { (1 ≤ to) × (to ≤ 4096) × Fitting 4 level.0 }
-    ensures { LeafPut (node 4 level.0) 0 work.old to result work.new }
-{
-    put_leaf(work, to, table::EXIT, level.0, 0)
-}
+    // Two parts, one before the other; one that is nothing is dropped.
+    pub fn join(&mut self, p: Part, q: Part, kind: u16) -> Part
+        requires room { 1 ≤ self.old.from }
+        requires shallow { Shallow p × Shallow q }
+        requires fitting { Fitting kind 0 }
+        ensures { (mid : ℕ) → PartsJoined (node kind 0) self.old.nodes (laid_at self.old.from p) (laid_at mid q) (laid_at self.new.from result) self.new.nodes }
+    {
+        if p.is_nothing() {
+            return q;
+        }
+        if q.is_nothing() {
+            return p;
+        }
+        self.put(kind, 0);
+        Part {
+            depth: p.depth.max(q.depth) + 1,
+            named: p.named | q.named,
+        }
+    }
 
-// Nothing gets its node where a statement has to stand.
-pub fn fill(work: &mut [u16; table::MOST_NODES], p: Part, to: usize) -> Part
-    requires { (1 ≤ p.from) × (p.from ≤ 4096) }
-    ensures { NothingFilled work.old to p result work.new }
-{
-    let from = p.from;
-    if from == to {
-        return Part {
-            from: put(work, from, table::NOTHING, 0),
-            depth: 1,
-            named: p.named,
-        };
+    // The else branch: whole where the present is started; in a try where it is resumed and the first branch can end.
+    pub fn close_else(&mut self, q: Part, started: bool, guarded: bool) -> Part
+        requires room { 3 ≤ self.old.from }
+        requires shallow { Shallow q }
+        ensures { ElseClosed started guarded self.old.nodes (laid_at self.old.from q) (laid_at self.new.from result) self.new.nodes }
+    {
+        if started {
+            return self.fill(q);
+        }
+        if q.is_nothing() {
+            return q;
+        }
+        if !guarded {
+            return q;
+        }
+        let nearest = Level(1);
+        self.put(table::EXIT, nearest.0);
+        self.put(table::SEQUENCE, 0);
+        self.put(table::TRY, 0);
+        Part {
+            depth: q.depth + 2,
+            ..q
+        }
     }
-    p
-}
 
-// The part alone, or a statement over it.
-pub fn wrap_if(
-    work: &mut [u16; table::MOST_NODES],
-    p: Part,
-    to: usize,
-    wrap: bool,
-    kind: u16,
-    operand: u8,
-) -> Part
-    requires { (2 ≤ p.from) × (p.from ≤ 4096) × (p.depth ≤ 200) × Fitting kind operand }
-    ensures { Wrapped (node kind operand) wrap work.old to p result work.new }
-{
-    if !wrap {
-        return p;
-    }
-    let whole = fill(work, p, to);
-    Part {
-        from: put(work, whole.from, kind, operand),
-        depth: whole.depth + 1,
-        named: whole.named,
-    }
-}
-
-// Two parts, one before the other; one that is nothing is dropped.
-pub fn join_parts(
-    work: &mut [u16; table::MOST_NODES],
-    p: Part,
-    q: Part,
-    to: usize,
-    kind: u16,
-) -> Part
-    requires { (1 ≤ p.from) × (p.from ≤ 4096) × (p.depth ≤ 200) × (q.depth ≤ 200) × Fitting kind 0 }
-    ensures { PartsJoined (node kind 0) work.old to p q result work.new }
-{
-    let from = p.from;
-    let depth = esterel::larger(p.depth, q.depth);
-    let named = p.named | q.named;
-    if from == q.from {
-        return Part { from, depth, named };
-    }
-    if q.from == to {
-        return Part { from, depth, named };
-    }
-    Part {
-        from: put(work, from, kind, 0),
-        depth: depth + 1,
-        named,
-    }
-}
-
-// The else branch: whole where the present is started; in a try where it is resumed and the first branch can end.
-pub fn close_else(
-    work: &mut [u16; table::MOST_NODES],
-    q: Part,
-    to: usize,
-    started: bool,
-    guarded: bool,
-) -> Part
-    requires { (3 ≤ q.from) × (q.from ≤ 4096) × (q.depth ≤ 200) }
-    ensures { ElseClosed started guarded work.old to q result work.new }
-{
-    if started {
-        return fill(work, q, to);
-    }
-    let from = q.from;
-    if from == to {
-        return q;
-    }
-    if !guarded {
-        return q;
-    }
-    let nearest = Level(1);
-    let exit = put(work, from, table::EXIT, nearest.0);
-    let body = put(work, exit, table::SEQUENCE, 0);
-    Part {
-        from: put(work, body, table::TRY, 0),
-        depth: q.depth + 2,
-        named: q.named,
-    }
-}
-
-// A present over its branches, or what is left of it where it is only resumed.
-pub fn close_present(
-    work: &mut [u16; table::MOST_NODES],
-    p: Part,
-    q: Part,
-    to: usize,
-    started: bool,
-    signal: u8,
-) -> Part
-    requires { (cond started 2 1 ≤ p.from) × (p.from ≤ 4096) × (p.depth ≤ 200) × (q.depth ≤ 200) × (signal ≤ 31) }
-    ensures { PresentClosed started signal work.old to p q result work.new }
-{
-    if !started {
-        return join_parts(work, p, q, to, table::SEQUENCE);
-    }
-    let whole = fill(work, p, q.from);
-    let named = whole.named | q.named | sets::singleton(signal);
-    Part {
-        from: put(work, whole.from, table::PRESENT, signal),
-        depth: esterel::larger(whole.depth, q.depth) + 1,
-        named,
+    // A present over its branches, or what is left of it where it is only resumed.
+    pub fn close_present(&mut self, p: Part, q: Part, started: bool, signal: u8) -> Part
+        requires room { cond started 2 1 ≤ self.old.from }
+        requires shallow { Shallow p × Shallow q }
+        requires fitting { signal ≤ 31 }
+        ensures { (mid : ℕ) → PresentClosed started signal self.old.nodes (laid_at self.old.from p) (laid_at mid q) (laid_at self.new.from result) self.new.nodes }
+    {
+        if !started {
+            return self.join(p, q, table::SEQUENCE);
+        }
+        let whole = self.fill(p);
+        let named = whole.named | q.named | sets::singleton(signal);
+        self.put(table::PRESENT, signal);
+        Part {
+            depth: whole.depth.max(q.depth) + 1,
+            named,
+        }
     }
 }

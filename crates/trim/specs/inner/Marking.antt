@@ -3,15 +3,14 @@ use Rattle.std.specs.Prelude.{ℕ, suc, ◌*◌, ◌/◌, ◌%◌, ◌^◌, ◌�
 use Rattle.std.specs.Int.Bits.{bit_or}
 use Rattle.sets.specs.Set.{has, only}
 use Rattle.esterel.specs.Statement.{Statement, present, Valid}
-use Rattle.esterel.specs.Codes.{none, s, d}
+use Rattle.esterel.specs.Codes.{Codes, none, s, d}
 use Rattle.esterel.specs.Trimming.{ends_at, trim}
 use Rattle.table.specs.Kinds.{kind_of}
 use Rattle.table.specs.inner.Places.{Placed, placed, place_one, place_kind, statement_at, Known}
-use Rattle.reach.specs.declared.codes.CodeSet.{CodeSet}
-use Rattle.reach.specs.inner.CodeSets.{codes_of}
 use Rattle.trim.specs.declared.marks.Exits.{Exits}
 use Rattle.trim.specs.declared.marks.Marked.{Marked}
-use Rattle.trim.specs.inner.Notes.{live, Noted}
+use Rattle.trim.specs.declared.noted.Note.{Note}
+use Rattle.trim.specs.inner.Notes.{live, no_note, Noted}
 
 -- ---- the exits that are left in a trimmed statement
 
@@ -23,6 +22,9 @@ pub record ExitsAre (R : ℕ) (p : Placed) (e : Exits) : Type 0 where
 
 abbrev pub exits : ℕ → ℕ → Exits
 exits r s = record { resumed = r; started = s }
+
+abbrev pub no_exits : Exits
+no_exits = exits 0 0
 
 -- of an exit of level e, and of statements from their children: both; one after the other, and a loop, by whether the first
 -- or the body can end
@@ -48,15 +50,15 @@ outside_of p = exits (p.resumed / 4 * 2) (p.started / 4 * 2)
 -- ---- what is found of a statement
 
 pub record Finds (R : ℕ) (p : Placed) (m : Marked) : Type 0 where
-  pub start : codes_of m.s ≡ s p.statement
-  pub resumed : codes_of m.d ≡ d R p.statement
+  pub start : m.s ≡ s p.statement
+  pub resumed : m.d ≡ d R p.statement
   pub leaving : ExitsAre R p m.exits
   pub lives : m.live ≡ live R p.statement
   pub next : m.next ≡ p.next
 
 -- of a statement that is never resumed, from its start codes and its exits
-pub record DeadFound (K : CodeSet) (e : Exits) (next : ℕ) (m : Marked) : Type 0 where
-  pub found : (R : ℕ) (t : Statement) → codes_of K ≡ s t → d R t ≡ none → ExitsAre R (placed t next) e → live R t ≡ false → Finds R (placed t next) m
+pub record DeadFound (K : Codes) (e : Exits) (next : ℕ) (m : Marked) : Type 0 where
+  pub found : (R : ℕ) (t : Statement) → K ≡ s t → d R t ≡ none → ExitsAre R (placed t next) e → live R t ≡ false → Finds R (placed t next) m
 
 -- a node without children, whose operand fits the words
 pub record LeafReady (kind operand : ℕ) : Type 0 where
@@ -85,7 +87,7 @@ PartsFound kind p q m =
 -- ---- the pass
 
 -- what it asks of the statement at a place: that it is valid, in so many tries, with nodes of known kinds; and room
-pub record Markable (left : ℕ) (nodes : List ℕ) (at : ℕ) (notes : List ℕ) : Type 0 where
+pub record Markable (left : ℕ) (nodes : List ℕ) (at : ℕ) (notes : List Note) : Type 0 where
   pub tries : ℕ
   pub valid : Valid tries (statement_at left nodes at).statement
   pub all : length nodes ≡ 1024
@@ -93,8 +95,8 @@ pub record Markable (left : ℕ) (nodes : List ℕ) (at : ℕ) (notes : List ℕ
   pub room : length notes ≡ 1024
 
 -- what it leaves: the notes of the statement, and those before it as they were
-pub record Marks (R : ℕ) (nodes : List ℕ) (left at : ℕ) (notes : List ℕ) (m : Marked) (notes' : List ℕ) : Type 0 where
+pub record Marks (R : ℕ) (nodes : List ℕ) (left at : ℕ) (notes : List Note) (m : Marked) (notes' : List Note) : Type 0 where
   pub finds : Finds R (statement_at left nodes at) m
   pub noted : Noted R notes' nodes left at
   pub size : length notes' ≡ length notes
-  pub low : (i : ℕ) → i < at → get_or notes' i 0 ≡ get_or notes i 0
+  pub low : (i : ℕ) → i < at → get_or notes' i no_note ≡ get_or notes i no_note

@@ -1,7 +1,7 @@
 -- Trimmed parts in the work area, written from its end: a part stands right before what follows it, and where it is
 -- nothing no node is written. These are the contracts of the steps of trimming.
 use Rattle.std.specs.Prelude.{ℕ, suc, ◌+◌, ◌-◌, ◌*◌, ◌≤◌, ◌<◌, max, ◌≡◌, Bool, true, false, cond, ◌||◌, List, [], ◌∷◌, ◌++◌, ltb, length, get_or, set, take, drop}
-use Rattle.sets.specs.Set.{has, only}
+use Rattle.sets.specs.Set.{has}
 use Rattle.esterel.specs.Statement.{Statement, present, sequence, depth, Valid}
 use Rattle.esterel.specs.Reachability.{reach}
 use Rattle.esterel.specs.Trimming.{is_nothing, names, ends_at, join_parts, trim}
@@ -11,6 +11,7 @@ use Rattle.table.specs.inner.Places.{Placed, statement_at, statement_of, Known}
 use Rattle.trim.specs.declared.descent.Around.{Around}
 use Rattle.trim.specs.declared.work.Part.{Part}
 use Rattle.trim.specs.inner.Levels.{trimmed_in, wrap_if, guarded_if}
+use Rattle.trim.specs.declared.noted.Note.{Note}
 use Rattle.trim.specs.inner.Notes.{Noted}
 
 -- ---- what stands in the work area
@@ -26,29 +27,38 @@ part_depth t = cond (is_nothing t) 0 (depth t)
 abbrev pub held_with : List ℕ → ℕ → ℕ → List ℕ
 held_with work at x = cond (ltb at 3072) work (set work (at - 3072) x)
 
+-- a part that was written, from a place on
+pub record Laid : Type 0 where
+  pub from : ℕ
+  pub depth : ℕ
+  pub named : ℕ
+
+abbrev pub laid_at : ℕ → Part → Laid
+laid_at from p = record { from = from; depth = p.depth; named = p.named }
+
+-- depths stay far below what a part's field can hold
+abbrev pub Shallow : Part → Type 0
+Shallow p = p.depth ≤ 200
+
 -- the list was written so that it ends at `to`, whatever stands in the places that are not held; the rest is as it was
 pub record Puts (l work : List ℕ) (to from : ℕ) (work' : List ℕ) : Type 0 where
   pub put : (all : List ℕ) → length all ≡ 4096 → drop 3072 all ≡ work → work' ≡ drop 3072 (take from all ++ (l ++ drop to all))
   pub from_is : from + length l ≡ to
 
-pub record NodesStand (l : List ℕ) (deep : ℕ) (t : Statement) (work : List ℕ) (to : ℕ) (r : Part) (work' : List ℕ) : Type 0 where
+pub record NodesStand (l : List ℕ) (deep : ℕ) (t : Statement) (work : List ℕ) (to : ℕ) (r : Laid) (work' : List ℕ) : Type 0 where
   pub puts : Puts l work to r.from work'
   pub depth_is : r.depth ≡ deep
   pub names_are : (S : ℕ) → has r.named S ≡ names S t
 
 -- the statement as a part, and as a whole statement, of one node at least
-abbrev pub PartStands : Statement → List ℕ → ℕ → Part → List ℕ → Type 0
+abbrev pub PartStands : Statement → List ℕ → ℕ → Laid → List ℕ → Type 0
 PartStands t = NodesStand (part t) (part_depth t) t
 
-abbrev pub WholeStands : Statement → List ℕ → ℕ → Part → List ℕ → Type 0
+abbrev pub WholeStands : Statement → List ℕ → ℕ → Laid → List ℕ → Type 0
 WholeStands t = NodesStand (nodes t) (depth t) t
 
-abbrev pub nothing_at : ℕ → Part
+abbrev pub nothing_at : ℕ → Laid
 nothing_at to = record { from = to; depth = 0; named = 0 }
-
--- what is made of a node of no kind: it names what no signal is
-abbrev pub refused_at : ℕ → Part
-refused_at to = record { from = to; depth = 0; named = only 63 }
 
 -- a kind, and an operand in its range
 pub record Fitting (kind operand : ℕ) : Type 0 where
@@ -83,34 +93,38 @@ pub record ExitReady (places : List ℕ) (a : Around) (level : ℕ) : Type 0 whe
   pub wide : a.tries < 64
   pub low : (i : ℕ) → i ≤ a.tries → get_or places i 0 ≤ a.kept
 
--- ---- the steps; `near` and `shallow` bound the room and the depth that a step takes
+-- a node was put in front of what stands from a place on, and stands from f on
+abbrev pub PutAt : List ℕ → ℕ → ℕ → ℕ → List ℕ → Type 0
+PutAt work from x f work' = (f ≡ from - 1) × (work' ≡ held_with work (from - 1) x)
 
-pub record LeafPut (x named : ℕ) (work : List ℕ) (to : ℕ) (r : Part) (work' : List ℕ) : Type 0 where
+-- ---- the steps, wherever what they take and make ends; `near` and `shallow` bound the room and the depth that a step takes
+
+pub record LeafPut (x named : ℕ) (work : List ℕ) (to : ℕ) (r : Laid) (work' : List ℕ) : Type 0 where
   pub made : (t : Statement) → Leaf t x named → PartStands t work to r work'
   pub near : to ≤ r.from + 1
   pub shallow : r.depth ≤ 1
 
 -- a part that is nothing gets its node
-pub record NothingFilled (work : List ℕ) (to : ℕ) (p r : Part) (work' : List ℕ) : Type 0 where
-  pub made : (t : Statement) (before : List ℕ) → to ≤ 4096 → PartStands t before to p work → WholeStands t before to r work'
+pub record NothingFilled (work : List ℕ) (p r : Laid) (work' : List ℕ) : Type 0 where
+  pub made : (t : Statement) (before : List ℕ) (to : ℕ) → to ≤ 4096 → PartStands t before to p work → WholeStands t before to r work'
   pub near : p.from ≤ r.from + 1
   pub below : r.from ≤ p.from
   pub shallow : r.depth ≤ p.depth + 1
 
-pub record Wrapped (x : ℕ) (z : Bool) (work : List ℕ) (to : ℕ) (p r : Part) (work' : List ℕ) : Type 0 where
-  pub made : (f : Statement → Statement) (t : Statement) (before : List ℕ) → Wraps f x → to ≤ 4096
+pub record Wrapped (x : ℕ) (z : Bool) (work : List ℕ) (p r : Laid) (work' : List ℕ) : Type 0 where
+  pub made : (f : Statement → Statement) (t : Statement) (before : List ℕ) (to : ℕ) → Wraps f x → to ≤ 4096
       → PartStands t before to p work → PartStands (wrap_if f z t) before to r work'
   pub near : p.from ≤ r.from + 2
   pub shallow : r.depth ≤ p.depth + 2
 
-pub record PartsJoined (x : ℕ) (work : List ℕ) (to : ℕ) (p q r : Part) (work' : List ℕ) : Type 0 where
-  pub made : (f : Statement → Statement → Statement) (s t : Statement) (before between : List ℕ) → Joins f x 0 → to ≤ 4096
+pub record PartsJoined (x : ℕ) (work : List ℕ) (p q r : Laid) (work' : List ℕ) : Type 0 where
+  pub made : (f : Statement → Statement → Statement) (s t : Statement) (before between : List ℕ) (to : ℕ) → Joins f x 0 → to ≤ 4096
       → PartStands t before to q between → PartStands s between q.from p work → PartStands (join_parts f s t) before to r work'
   pub near : p.from ≤ r.from + 1
   pub shallow : r.depth ≤ max p.depth q.depth + 1
 
 -- the else branch of a present: whole where the present is started, in its try or not where it is resumed
-abbrev pub Branch : Bool → Statement → List ℕ → ℕ → Part → List ℕ → Type 0
+abbrev pub Branch : Bool → Statement → List ℕ → ℕ → Laid → List ℕ → Type 0
 Branch true t = WholeStands t
 Branch false t = PartStands t
 
@@ -122,13 +136,13 @@ abbrev pub present_if : Bool → ℕ → Statement → Statement → Statement
 present_if true S s t = present S s t
 present_if false S s t = join_parts sequence s t
 
-pub record ElseClosed (started z : Bool) (work : List ℕ) (to : ℕ) (q r : Part) (work' : List ℕ) : Type 0 where
-  pub made : (t : Statement) (before : List ℕ) → to ≤ 4096 → PartStands t before to q work → Branch started (branch_if started z t) before to r work'
+pub record ElseClosed (started z : Bool) (work : List ℕ) (q r : Laid) (work' : List ℕ) : Type 0 where
+  pub made : (t : Statement) (before : List ℕ) (to : ℕ) → to ≤ 4096 → PartStands t before to q work → Branch started (branch_if started z t) before to r work'
   pub near : q.from ≤ r.from + cond started 1 3
   pub shallow : r.depth ≤ q.depth + 2
 
-pub record PresentClosed (started : Bool) (S : ℕ) (work : List ℕ) (to : ℕ) (p q r : Part) (work' : List ℕ) : Type 0 where
-  pub made : (s t : Statement) (before between : List ℕ) → to ≤ 4096
+pub record PresentClosed (started : Bool) (S : ℕ) (work : List ℕ) (p q r : Laid) (work' : List ℕ) : Type 0 where
+  pub made : (s t : Statement) (before between : List ℕ) (to : ℕ) → to ≤ 4096
       → Branch started t before to q between → PartStands s between q.from p work → PartStands (present_if started S s t) before to r work'
   pub near : p.from ≤ r.from + cond started 2 1
   pub shallow : r.depth ≤ max (p.depth + 1) q.depth + 1
@@ -144,7 +158,7 @@ unfoldable pub reach_set_of : List ℕ → ℕ
 reach_set_of xs = (reach (statement_of xs)).set
 
 -- what trimming the statement at a place asks: 4 nodes of room for each node
-pub record Trimmable (R : ℕ) (xs notes : List ℕ) (at left : ℕ) (a : Around) (places work : List ℕ) (to : ℕ) : Type 0 where
+pub record Trimmable (R : ℕ) (xs : List ℕ) (notes : List Note) (at left : ℕ) (a : Around) (places work : List ℕ) (to : ℕ) : Type 0 where
   pub valid : Valid a.tries (statement_at left xs at).statement
   pub noted : Noted R notes xs left at
   pub all : length xs ≡ 1024
@@ -158,7 +172,7 @@ pub record Trimmable (R : ℕ) (xs notes : List ℕ) (at left : ℕ) (a : Around
   pub caught : Caught R places a (statement_at left xs at).statement
 
 -- the statement p, which begins at a place, was trimmed
-pub record Done (R : ℕ) (p : Placed) (at left : ℕ) (a : Around) (places work : List ℕ) (to : ℕ) (r : Part) (places' work' : List ℕ) : Type 0 where
+pub record Done (R : ℕ) (p : Placed) (at left : ℕ) (a : Around) (places work : List ℕ) (to : ℕ) (r : Laid) (places' work' : List ℕ) : Type 0 where
   pub made : PartStands (trimmed_in R places a p.statement) work to r work'
   pub room : to + 4 * at ≤ r.from + 4 * p.next
   pub shallow : r.depth ≤ 3 * left

@@ -1,44 +1,19 @@
--- `summary::follow_each` meets its contract. The invariant: the labels of the set that are left are still to be changed. The
--- measure is how many they are.
+-- `summary::follow_each` meets its contract. The invariant: the labels of the set that are left are still to be changed.
 use mathlib.Core.Path.{ap, ◌∙◌}
 use Rattle.esterel.specs.Codes.{Codes, join, minus_zero}
-use Rattle.reach.specs.inner.CodeSets.{codes_of}
-use Rattle.reach.proofs.Summaries.{walk_begins, walk_falls, walk_on, walk_ends}
+use Rattle.reach.proofs.Summaries.{walk_begins, read_on, walk_on, walk_ends}
 use Rattle.reach.proofs.summary.follow_each.Goals as goal
 
-pub loop-rest-init : goal.loop-rest-init
-loop-rest-init c = walk_begins c.args.set _ c.args.kept.now
+pub loop-label-init : goal.loop-label-init
+loop-label-init c =
+    walk_begins c.args.set _ _ c.args.kept.now (ap (λ r. r.rest) c.into_iter-label-iterator.ensures.into_iter_gives ∙ c.each-label-items.ensures)
 
-pub least-requires : goal.least-requires
-least-requires c = c.loop-rest-test.true
-
-pub read-before-requires : goal.read-before-requires
-read-before-requires c = c.least.ensures.0
-
-pub minus_zero-requires : goal.minus_zero-requires
-minus_zero-requires c = tt
-
-pub join-requires : goal.join-requires
-join-requires c = tt
-
-pub store-requires : goal.store-requires
-store-requires c = c.least.ensures.0
-
-pub without-rest-requires : goal.without-rest-requires
-without-rest-requires c = tt
-
-pub loop-rest-smaller : goal.loop-rest-smaller
-loop-rest-smaller c =
-    walk_falls c.loop-rest.rest c.least.result c.without-rest.result c.least.ensures.0 c.least.ensures.1 c.without-rest.ensures
-
-pub loop-rest-preserved : goal.loop-rest-preserved
-loop-rest-preserved c =
-    let after = codes_of c.args.after in
-    walk_on c.args.set c.loop-rest.rest (λ K. join (minus_zero K) after) c.args.kept.now c.loop-rest.kept c.loop-rest.invariant
-    c.least.result c.least.ensures.0 c.least.ensures.1 c.requires c.join.result
-    (c.join.ensures ∙ ap (λ (K : Codes). join K after) (c.minus_zero.ensures ∙ ap minus_zero c.read-before.ensures))
-    _ c.store.ensures c.without-rest.result c.without-rest.ensures
+pub loop-label-preserved : goal.loop-label-preserved
+loop-label-preserved c =
+    let (some, low, in_it, first, left) = c.in-Some.ensures.steps in
+    let before = read_on c.args.set _ _ c.args.kept.now c.loop-label.kept c.loop-label.invariant c.in-Some.label low in_it c.told-kept c.index-kept-at.result in
+    walk_on c.args.set _ _ c.args.kept.now c.loop-label.kept c.loop-label.invariant c.in-Some.label low in_it c.told-kept
+    c.bitor.result (c.bitor.ensures ∙ ap (λ (K : Codes). join K c.args.after) (c.minus_zero.ensures ∙ ap minus_zero before)) _ left
 
 pub returns : goal.returns
-returns c =
-    walk_ends c.args.set c.loop-rest.rest _ c.args.kept.now c.loop-rest.kept c.loop-rest.invariant c.loop-rest-test.false
+returns c = walk_ends c.args.set _ _ c.args.kept.now c.loop-label.kept c.loop-label.invariant c.in-None.ensures.steps.0

@@ -1,9 +1,5 @@
-use Rattle.sets.specs.Set.{count}
 use Rattle.reach.proofs.Summaries.{Gathering}
 use Rattle.reach.proofs.summary.labels_from.Given as goal
 
-abbrev pub invariant-loop-rest : goal.invariant-loop-rest
-invariant-loop-rest l = Gathering l.set l.rest l.kept l.labels
-
-abbrev pub decreases-loop-rest : goal.decreases-loop-rest
-decreases-loop-rest l = count 64 l.rest
+abbrev pub invariant-loop-label : goal.invariant-loop-label
+invariant-loop-label l = Gathering l.set l.label-iterator.rest l.kept l.labels

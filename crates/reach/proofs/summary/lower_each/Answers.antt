@@ -1,53 +1,23 @@
 -- `summary::lower_each` meets its contract, as `follow_each` does; `ending` is said of the labels that are done.
-use mathlib.Core.Path.{ap, ap₂, ◌∙◌}
+use mathlib.Core.Path.{ap, ◌∙◌}
 use mathlib.Core.Bool.{Bool, cond}
-use Prim.Native.Nat.{ℕ}
-use Rattle.sets.specs.Set.{◌union◌}
-use Rattle.sets.proofs.Members.{only_fits}
+use Rattle.sets.specs.Set.{only, ◌union◌}
 use Rattle.esterel.specs.Codes.{through_try}
-use Rattle.reach.proofs.Summaries.{walk_falls, lower_begins, lower_on, lower_ends}
+use Rattle.reach.proofs.Summaries.{lower_begins, own_shift, read_on, lower_on, lower_ends}
 use Rattle.reach.proofs.summary.lower_each.Goals as goal
 
-pub loop-rest-init : goal.loop-rest-init
-loop-rest-init c = lower_begins c.args.set c.args.kept.now
+pub loop-label-init : goal.loop-label-init
+loop-label-init c =
+    lower_begins c.args.set _ c.args.kept.now (ap (λ r. r.rest) c.into_iter-label-iterator.ensures.into_iter_gives ∙ c.each-label-items.ensures)
 
-pub least-requires : goal.least-requires
-least-requires c = c.loop-rest-test.true
-
-pub read-requires : goal.read-requires
-read-requires c = c.least.ensures.0
-
-pub through_try-lowered-requires : goal.through_try-lowered-requires
-through_try-lowered-requires c = tt
-
-pub store-requires : goal.store-requires
-store-requires c = c.least.ensures.0
-
-pub ends-requires : goal.ends-requires
-ends-requires c = tt
-
-pub singleton-requires : goal.singleton-requires
-singleton-requires c = tt
-
-pub set_if-ending-requires : goal.set_if-ending-requires
-set_if-ending-requires c = tt
-
-pub without-rest-requires : goal.without-rest-requires
-without-rest-requires c = tt
-
-pub loop-rest-smaller : goal.loop-rest-smaller
-loop-rest-smaller c =
-    walk_falls c.loop-rest.rest c.least.result c.without-rest.result c.least.ensures.0 c.least.ensures.1 c.without-rest.ensures
-
-pub loop-rest-preserved : goal.loop-rest-preserved
+pub loop-label-preserved : goal.loop-label-preserved
 unfolding ◌union◌
-loop-rest-preserved c =
-    lower_on c.args.set c.loop-rest.rest c.args.kept.now c.loop-rest.kept c.loop-rest.ending c.loop-rest.invariant
-    c.least.result c.least.ensures.0 c.least.ensures.1 c.requires
-    c.through_try-lowered.result (c.through_try-lowered.ensures ∙ ap through_try c.read.ensures) _ c.store.ensures c.set_if-ending.result
-    (c.set_if-ending.ensures ∙ ap₂ (λ (z : Bool) (m : ℕ). cond z m 0) c.ends.ensures (c.singleton.ensures ∙ only_fits 64 c.least.result c.least.ensures.0))
-    c.without-rest.result c.without-rest.ensures
+loop-label-preserved c =
+    let (some, low, in_it, first, left) = c.in-Some.ensures.steps in
+    let before = read_on c.args.set _ _ c.args.kept.now c.loop-label.kept c.loop-label.invariant.walking c.in-Some.label low in_it c.told-kept c.index-kept-at.result in
+    lower_on c.args.set _ c.args.kept.now c.loop-label.kept c.loop-label.ending c.loop-label.invariant c.in-Some.label low in_it c.told-kept
+    c.through_try-lowered.result (c.through_try-lowered.ensures ∙ ap through_try before) _
+    (own_shift c.ends.result c.in-Some.label low ∙ ap (λ (z : Bool). cond z (only c.in-Some.label) 0) c.ends.ensures) _ left
 
 pub returns : goal.returns
-returns c =
-    lower_ends c.args.set c.loop-rest.rest c.args.kept.now c.loop-rest.kept c.loop-rest.ending c.loop-rest.invariant c.loop-rest-test.false
+returns c = lower_ends c.args.set _ c.args.kept.now c.loop-label.kept c.loop-label.ending c.loop-label.invariant c.in-None.ensures.steps.0

@@ -1,5 +1,6 @@
 -- `marks::mark_at` meets its contract: each arm is a law of Marking, at the node that the decision over its kind found.
-use mathlib.Core.Path.{refl}
+use mathlib.Core.Path.{refl, ap}
+use lib.ListN.{set}
 use native.Mathlib.Omega.{arith}
 use Rattle.reach.proofs.There.{node_there, no_node_there}
 use Rattle.trim.proofs.Marking.{found_nothing, mark_none, enter_first, enter_second, leaf_ready, note_fits, mark_leaf, mark_signal, mark_loop, mark_try, mark_two}
@@ -8,9 +9,9 @@ use Rattle.trim.proofs.marks.+mark_at.Goals as goal
 
 pub returns-then-left-eq0 : goal.returns-then-left-eq0
 returns-then-left-eq0 t c =
-    mark_none c.args.r c.args.nodes.now c.args.left c.args.at c.args.notes.now c.of_leaf.result
+    mark_none c.args.r c.args.nodes.now c.args.left c.args.at c.args.notes.now c.leaf.result
     (no_node_there c.args.nodes.now c.requires.all c.then-left-eq0.either)
-    (found_nothing c.of_leaf.ensures c.args.r c.just_ended.ensures c.no_exits.ensures)
+    (found_nothing c.leaf.ensures c.args.r c.just_ended.ensures refl)
 
 pub bounds-nodes-at : goal.bounds-nodes-at
 bounds-nodes-at t c = c.if-at-ge-MOST_NODES.false
@@ -19,12 +20,9 @@ pub without_child-m-requires : goal.without_child-m-requires
 without_child-m-requires t c =
     rw c.operand_of.ensures (leaf_ready c.args.r (node_there c.if-left-eq0.false c.requires.all c.if-at-ge-MOST_NODES.false c.kind_of-kind.ensures refl) c.requires (omega arith))
 
-pub note_leaf-requires : goal.note_leaf-requires
-note_leaf-requires t c = c.if-at-ge-MOST_NODES.false
-
 pub returns-in-0-to-4 : goal.returns-in-0-to-4
 returns-in-0-to-4 t c =
-    mark_leaf c.args.r (node_there c.if-left-eq0.false c.requires.all c.if-at-ge-MOST_NODES.false c.kind_of-kind.ensures refl) c.requires (omega arith) (rw c.operand_of.ensures at c.without_child-m.ensures) c.note_leaf.ensures
+    mark_leaf c.args.r (node_there c.if-left-eq0.false c.requires.all c.if-at-ge-MOST_NODES.false c.kind_of-kind.ensures refl) c.requires (omega arith) (rw c.operand_of.ensures at c.without_child-m.ensures) (ap (set c.args.notes.now c.args.at) c.leaf_note.ensures)
 
 pub mark_at-p-requires : goal.mark_at-p-requires
 mark_at-p-requires t c =
@@ -32,13 +30,9 @@ mark_at-p-requires t c =
     let falls_by_one : c.args.left - 1 < t = omega (arith, c.decreases, c.if-left-eq0.false) in
     (falls_by_one, enter_first c.args.r (node_there c.if-left-eq0.false c.requires.all c.if-at-ge-MOST_NODES.false c.kind_of-kind.ensures refl) c.requires (omega (arith, c.in-5.is)) known)
 
-pub note_child-requires : goal.note_child-requires
-note_child-requires t c =
-    note_fits c.args.r (node_there c.if-left-eq0.false c.requires.all c.if-at-ge-MOST_NODES.false c.kind_of-kind.ensures refl) c.requires c.mark_at-p.ensures.finds
-
 pub returns-in-5 : goal.returns-in-5
 returns-in-5 t c =
-    mark_signal c.args.r c.requires c.mark_at-p.ensures (node_there c.if-left-eq0.false c.requires.all c.if-at-ge-MOST_NODES.false c.kind_of-kind.ensures c.in-5.is) c.note_child.ensures
+    mark_signal c.args.r c.requires c.mark_at-p.ensures (node_there c.if-left-eq0.false c.requires.all c.if-at-ge-MOST_NODES.false c.kind_of-kind.ensures c.in-5.is) (ap (set c.mark_at-p.new.notes c.args.at) c.parent_note.ensures)
 
 pub mark_at-p-requires-in-6-to-8 : goal.mark_at-p-requires-in-6-to-8
 mark_at-p-requires-in-6-to-8 t c =
@@ -52,18 +46,18 @@ mark_at-q-requires t c =
     let two : (6 ≤ c.kind_of-kind.result) × (c.kind_of-kind.result ≤ 8) = (omega arith, omega arith) in
     (falls_by_one, enter_second c.args.r (node_there c.if-left-eq0.false c.requires.all c.if-at-ge-MOST_NODES.false c.kind_of-kind.ensures refl) c.requires two.0 two.1 c.mark_at-p-in-6-to-8.ensures)
 
-pub note_child-requires-in-6-to-8 : goal.note_child-requires-in-6-to-8
-note_child-requires-in-6-to-8 t c =
+pub parent_note-requires-in-6-to-8 : goal.parent_note-requires-in-6-to-8
+parent_note-requires-in-6-to-8 t c =
     note_fits c.args.r (node_there c.if-left-eq0.false c.requires.all c.if-at-ge-MOST_NODES.false c.kind_of-kind.ensures refl) c.requires c.mark_at-p-in-6-to-8.ensures.finds
 
-pub with_two-requires : goal.with_two-requires
-with_two-requires t c =
+pub with_second-requires : goal.with_second-requires
+with_second-requires t c =
     (omega arith, omega arith)
 
 pub returns-in-6-to-8 : goal.returns-in-6-to-8
 returns-in-6-to-8 t c =
     let two : (6 ≤ c.kind_of-kind.result) × (c.kind_of-kind.result ≤ 8) = (omega arith, omega arith) in
-    mark_two c.args.r c.requires c.mark_at-p-in-6-to-8.ensures two.0 two.1 (node_there c.if-left-eq0.false c.requires.all c.if-at-ge-MOST_NODES.false c.kind_of-kind.ensures refl) c.mark_at-q.ensures c.with_two.ensures c.note_child-in-6-to-8.ensures
+    mark_two c.args.r c.requires c.mark_at-p-in-6-to-8.ensures two.0 two.1 (node_there c.if-left-eq0.false c.requires.all c.if-at-ge-MOST_NODES.false c.kind_of-kind.ensures refl) c.mark_at-q.ensures c.with_second.ensures (ap (set c.mark_at-q.new.notes c.args.at) c.parent_note-in-6-to-8.ensures)
 
 pub mark_at-p-requires-in-9 : goal.mark_at-p-requires-in-9
 mark_at-p-requires-in-9 t c =
@@ -71,13 +65,9 @@ mark_at-p-requires-in-9 t c =
     let falls_by_one : c.args.left - 1 < t = omega (arith, c.decreases, c.if-left-eq0.false) in
     (falls_by_one, enter_first c.args.r (node_there c.if-left-eq0.false c.requires.all c.if-at-ge-MOST_NODES.false c.kind_of-kind.ensures refl) c.requires (omega (arith, c.in-9.is)) known)
 
-pub note_child-requires-in-9 : goal.note_child-requires-in-9
-note_child-requires-in-9 t c =
-    note_fits c.args.r (node_there c.if-left-eq0.false c.requires.all c.if-at-ge-MOST_NODES.false c.kind_of-kind.ensures refl) c.requires c.mark_at-p-in-9.ensures.finds
-
 pub returns-in-9 : goal.returns-in-9
 returns-in-9 t c =
-    mark_loop c.args.r c.requires c.mark_at-p-in-9.ensures (node_there c.if-left-eq0.false c.requires.all c.if-at-ge-MOST_NODES.false c.kind_of-kind.ensures c.in-9.is) c.of_loop.ensures c.note_child-in-9.ensures
+    mark_loop c.args.r c.requires c.mark_at-p-in-9.ensures (node_there c.if-left-eq0.false c.requires.all c.if-at-ge-MOST_NODES.false c.kind_of-kind.ensures c.in-9.is) c.in_loop.ensures (ap (set c.mark_at-p-in-9.new.notes c.args.at) c.parent_note-in-9.ensures)
 
 pub mark_at-p-requires-in-10 : goal.mark_at-p-requires-in-10
 mark_at-p-requires-in-10 t c =
@@ -85,13 +75,9 @@ mark_at-p-requires-in-10 t c =
     let falls_by_one : c.args.left - 1 < t = omega (arith, c.decreases, c.if-left-eq0.false) in
     (falls_by_one, enter_first c.args.r (node_there c.if-left-eq0.false c.requires.all c.if-at-ge-MOST_NODES.false c.kind_of-kind.ensures refl) c.requires (omega (arith, c.in-10.is)) known)
 
-pub note_try-requires : goal.note_try-requires
-note_try-requires t c =
-    note_fits c.args.r (node_there c.if-left-eq0.false c.requires.all c.if-at-ge-MOST_NODES.false c.kind_of-kind.ensures refl) c.requires c.mark_at-p-in-10.ensures.finds
-
 pub returns-in-10 : goal.returns-in-10
 returns-in-10 t c =
-    mark_try c.args.r c.requires c.mark_at-p-in-10.ensures (node_there c.if-left-eq0.false c.requires.all c.if-at-ge-MOST_NODES.false c.kind_of-kind.ensures c.in-10.is) c.of_try.ensures c.note_try.ensures
+    mark_try c.args.r c.requires c.mark_at-p-in-10.ensures (node_there c.if-left-eq0.false c.requires.all c.if-at-ge-MOST_NODES.false c.kind_of-kind.ensures c.in-10.is) c.in_try.ensures (ap (set c.mark_at-p-in-10.new.notes c.args.at) c.try_note.ensures)
 
 pub returns-in-11-to-15 : goal.returns-in-11-to-15
 returns-in-11-to-15 t c =

@@ -1,7 +1,0 @@
--- `codes::just_at` meets its contract.
-use borrow.Author.Rules.{rules}
-use Rattle.reach.proofs.CodeSets.{view_at}
-use Rattle.reach.proofs.codes.just_at.Goals as goal
-
-pub returns : goal.returns
-returns c = view_at c.args.label.0 (search rules)

@@ -1,4 +1,0 @@
-use Rattle.trim.proofs.descent.+trim_at.Given as goal
-
-abbrev pub decreases-trim_at : goal.decreases-trim_at
-decreases-trim_at l = l.left
