@@ -1,164 +1,149 @@
--- Values written into a buffer from the front, one after the other, or so many bytes at a time: afterwards they stand in front
--- of what was there.
-use mathlib.Core.Path.{◌≡◌, refl, sym, ap, ◌∙◌, subst}
-use mathlib.Core.List.{List, [], ◌∷◌, ◌++◌, map}
-use Prim.Native.Nat.{ℕ, zero, suc, ◌+◌, ◌*◌, ◌-◌, ◌/◌, ◌%◌, ◌^◌, ◌≤◌, ◌<◌}
+-- Numbers written into a buffer from the front, one after the other, each spelled in as many elements: afterwards they stand in front of
+-- what was there.
+use mathlib.Core.Path.{◌≡◌, refl, sym, ap, ap₂, ◌∙◌}
+use mathlib.Core.List.{List, [], ◌∷◌, ◌++◌, map, append_assoc, append-nil}
+use Prim.Native.Nat.{ℕ, zero, suc, ◌+◌, ◌*◌, ◌/◌, ◌≤◌, ◌<◌, min}
 use native.Mathlib.Omega.{arith}
-use native.Mathlib.Decide.{dec_lt}
-use native.Mathlib.Nat.{mul-suc}
+use native.Mathlib.Nat.{mul-suc, mul-le-mul_left, mul-div-le}
 use native.Mathlib.Numerals.{add-one}
-use lib.ListN.{length, get_or, set, take, drop, length-set, length-append, length-drop, length-map, get_or-append}
-use lib.Seq.{paste, length-paste, length_paste_head, length-take-le, get_or-take, get_or-set_same, get_or-set_other, get_or-append-add, get_or-drop, ext_get_or}
+use lib.ListN.{length, get_or, set, take, drop, length-append, length-drop, length-map, length-set}
+use lib.Seq.{take_all, take-suc, take_at, drop-drop, drop_at, set_split, append_snoc, paste}
 use Rattle.esterel.specs.Reactions.{Reaction}
 use Rattle.table.specs.Bits.{bytes}
 use Rattle.table.proofs.Bits.{length_bytes}
 use Rattle.esterel.specs.inner.Rows.{reactions}
-use Rattle.area.specs.inner.Layout.{packed}
-use Rattle.area.specs.inner.Area.{row_at, rows}
+use Rattle.rows.specs.declared.row.Row.{Row}
+use Rattle.rows.specs.inner.Layout.{unpacked}
 use Rattle.list.specs.Buffers.{emitted_in, code_in, reached_in, front, spread}
-use Rattle.list.specs.inner.Finding.{reactions_held}
+use Rattle.list.specs.inner.Finding.{reactions_held, spelled}
 use Rattle.list.proofs.Limits.{held_length}
 
--- ---- in front of what was there
-get_d_after : (xs ys : List ℕ) (i : ℕ) → length xs ≤ i → get_or (xs ++ ys) i 0 ≡ get_or ys (i - length xs) 0
-get_d_after xs ys i h =
-    let e : length xs + (i - length xs) ≡ i = omega arith in
-    ap (λ (z : ℕ). get_or (xs ++ ys) z 0) (sym e) ∙ get_or-append-add xs ys (i - length xs) 0
+module _ {A : Type 0} (f : ℕ → List A) where
+  spelled_more : (vs : List ℕ) (v : ℕ) → spelled f (vs ++ v ∷ []) ≡ spelled f vs ++ f v
+  unfolding spelled
+  spelled_more [] v = append-nil (f v)
+  spelled_more (u ∷ vs) v = ap (λ (z : List A). f u ++ z) (spelled_more vs v) ∙ sym (append_assoc (f u) (spelled f vs) (f v))
 
-pub front_is : (vs old new : List ℕ) → length vs ≤ length old → length new ≡ length old → ((i : ℕ) → i < length vs → get_or new i 0 ≡ get_or vs i 0)
-    → ((i : ℕ) → length vs ≤ i → get_or new i 0 ≡ get_or old i 0) → new ≡ front vs old
-unfolding front
-front_is vs old new h s f g =
-    let d = length-drop (length vs) old in
-    let l = length-append vs (drop (length vs) old) in
-    ext_get_or 0 new (vs ++ drop (length vs) old) (omega arith) (λ i k. go i (dec_lt i (length vs)))
-  where
-    go : (i : ℕ) → Dec (i < length vs) → get_or new i 0 ≡ get_or (vs ++ drop (length vs) old) i 0
-    go i (yes k) = f i k ∙ sym (get_or-append vs (drop (length vs) old) 0 i k)
-    go i (no k) =
-        let e : length vs + (i - length vs) ≡ i = omega arith in
-        g i (omega arith) ∙ sym (get_d_after vs (drop (length vs) old) i (omega arith) ∙ get_or-drop (length vs) old (i - length vs) 0 ∙ ap (λ (z : ℕ). get_or old z 0) e)
+  -- of the numbers vs, w elements each, the first i are written
+  pub record Filled (w : ℕ) (vs : List ℕ) (old new : List A) (i : ℕ) : Type 0 where
+    pub wide : length (spelled f (take i vs)) ≡ w * i
+    pub within : length new ≡ length old
+    pub written : new ≡ spelled f (take i vs) ++ drop (w * i) old
 
--- the first i values of vs are written
-pub record Filled (vs old new : List ℕ) (i : ℕ) : Type 0 where
-  pub same : length new ≡ length old
-  pub done : (j : ℕ) → j < i → get_or new j 0 ≡ get_or vs j 0
-  pub rest : (j : ℕ) → i ≤ j → get_or new j 0 ≡ get_or old j 0
+  module _ (w : ℕ) (vs : List ℕ) (old : List A) where
+    pub filled_none : Filled w vs old old 0
+    unfolding spelled
+    filled_none =
+        let z : w * 0 ≡ 0 = omega arith in
+        record { wide = sym z; within = refl; written = sym (ap (λ (n : ℕ). drop n old) z) }
 
-pub filled_none : (vs old : List ℕ) → Filled vs old old 0
-filled_none vs old = record { same = refl; done = λ j h. absurd (omega arith); rest = λ j h. refl }
+    module _ {new : List A} {i : ℕ} (h : Filled w vs old new i) where
+      pub filled_step : {next : List A} (v : ℕ) → i < length vs → v ≡ get_or vs i 0 → w * i + w ≤ length old → length next ≡ length new
+          → next ≡ take (w * i) new ++ f v ++ drop (w * i + w) new → Filled w vs old next (i + 1)
+      filled_step {next} v l e room s p = record { wide = ap length more ∙ length-append (spelled f (take i vs)) (f v) ∙ wider; within = s ∙ h.within; written = stands }
+        where
+          more : spelled f (take (i + 1) vs) ≡ spelled f (take i vs) ++ f v
+          more = ap (λ (n : ℕ). spelled f (take n vs)) (add-one i) ∙ ap (spelled f) (take-suc vs i 0 l ∙ ap (λ (n : ℕ). take i vs ++ n ∷ []) (sym e)) ∙ spelled_more (take i vs) v
 
-pub filled_step : (vs old new : List ℕ) (i v : ℕ) → Filled vs old new i → i < length old → v ≡ get_or vs i 0 → Filled vs old (set new i v) (i + 1)
-filled_step vs old new i v f h e =
-    record { same = length-set new i v ∙ f.same; done = λ j k. go j k (dec_lt j i); rest = λ j k. get_or-set_other new i j v 0 (λ z. omega arith) ∙ f.rest j (omega arith) }
-  where
-    go : (j : ℕ) → j < i + 1 → Dec (j < i) → get_or (set new i v) j 0 ≡ get_or vs j 0
-    go j k (yes l) = get_or-set_other new i j v 0 (λ z. omega arith) ∙ f.done j l
-    go j k (no l) =
-        let z : j ≡ i = omega arith in
-        let s = f.same in
-        ap (λ (y : ℕ). get_or (set new i v) y 0) z ∙ get_or-set_same new i v 0 (omega arith) ∙ e ∙ ap (λ (y : ℕ). get_or vs y 0) (sym z)
+          front_is : take (w * i) new ≡ spelled f (take i vs)
+          front_is = ap (take (w * i)) h.written ∙ take_at (spelled f (take i vs)) (drop (w * i) old) (w * i) h.wide
 
-pub filled_all : (vs old new : List ℕ) (i : ℕ) → Filled vs old new i → length vs ≡ i → length vs ≤ length old → new ≡ front vs old
-filled_all vs old new i f e h = front_is vs old new h f.same (λ j k. f.done j (omega arith)) (λ j k. f.rest j (omega arith))
+          rest_is : drop (w * i + w) new ≡ drop (w * i + w) old
+          rest_is =
+              sym (drop-drop w (w * i) new)
+              ∙ ap (drop w) (ap (drop (w * i)) h.written ∙ drop_at (spelled f (take i vs)) (drop (w * i) old) (w * i) h.wide) ∙ drop-drop w (w * i) old
 
--- ---- the reactions of an area, one field of each
-module _ (f : Reaction → ℕ) (a : List ℕ) where
-  pub fields_length : (n : ℕ) → length (map f (reactions_held a n)) ≡ n
-  fields_length n = length-map (reactions_held a n) f ∙ held_length a 0 n
+          further : w * i + w ≡ w * (i + 1)
+          further = sym (ap (λ (n : ℕ). w * n) (add-one i) ∙ mul-suc w i)
 
-  fields_at : (q n i : ℕ) → i < n → get_or (map f (reactions (rows a q n))) i 0 ≡ f (row_at a (q + 2 * i)).reacts
-  unfolding rows reactions
-  fields_at q zero i h = absurd (omega arith)
-  fields_at q (suc n) zero h = let e : q ≡ q + 2 * zero = omega arith in ap (λ (z : ℕ). f (row_at a z).reacts) e
-  fields_at q (suc n) (suc i) h =
-      let e : q + 2 + 2 * i ≡ q + 2 * suc i = omega arith in
-      fields_at (q + 2) n i (omega arith) ∙ ap (λ (z : ℕ). f (row_at a z).reacts) e
+          stands : next ≡ spelled f (take (i + 1) vs) ++ drop (w * (i + 1)) old
+          stands = p ∙ ap₂ (λ (a b : List A). a ++ f v ++ b) front_is rest_is ∙ ap₂ (λ (a : List A) (n : ℕ). a ++ drop n old) (sym more) further
 
-module _ (a : List ℕ) (n i : ℕ) (h : i < n) where
-  from_front : (f : Reaction → ℕ) → get_or (map f (reactions_held a n)) i 0 ≡ f (row_at a (2 * i)).reacts
-  from_front f = let e : 0 + 2 * i ≡ 2 * i = omega arith in fields_at f a 0 n i h ∙ ap (λ (z : ℕ). f (row_at a z).reacts) e
+          -- the buffer kept its length
+          wider : length (spelled f (take i vs)) + length (f v) ≡ w * (i + 1)
+          wider =
+              let a = length-append (take (w * i) new ++ f v) (drop (w * i + w) new) in
+              let b = length-append (take (w * i) new) (f v) in
+              let c = ap length front_is in
+              let d = ap length p in
+              let g = length-drop (w * i + w) new in
+              let k = h.within in
+              omega (arith, further)
 
-  pub signals_at : get_or a (2 * i) 0 / 2 ^ 32 ≡ get_or (map emitted_in (reactions_held a n)) i 0
-  unfolding packed
-  signals_at = sym (from_front emitted_in)
+      pub filled_all : i ≡ length vs → new ≡ front (spelled f vs) old
+      unfolding front
+      filled_all e =
+          let all : take i vs ≡ vs = take_all i vs (omega arith) in
+          h.written ∙ ap (λ (n : ℕ). spelled f (take i vs) ++ drop n old) (sym h.wide) ∙ ap (λ (us : List ℕ). spelled f us ++ drop (length (spelled f us)) old) all
 
-  pub codes_at : get_or a (2 * i) 0 / 2 ^ 24 % 256 ≡ get_or (map code_in (reactions_held a n)) i 0
-  unfolding packed
-  codes_at = sym (from_front code_in)
+-- ---- how numbers are put in a buffer: as they are, or their bytes
+pub set_is : {A : Type 0} (l : List A) (i : ℕ) (v : A) → i < length l → set l i v ≡ take (1 * i) l ++ v ∷ [] ++ drop (1 * i + 1) l
+set_is l i v h =
+    let e : 1 * i ≡ i = omega arith in
+    let g : suc i ≡ 1 * i + 1 = omega arith in
+    set_split l i v h ∙ ap₂ (λ (m n : ℕ). take m l ++ v ∷ drop n l) (sym e) g ∙ sym (append_snoc (take (1 * i) l) v (drop (1 * i + 1) l))
 
-  pub labels_at : get_or a (2 * i + 1) 0 ≡ get_or (map reached_in (reactions_held a n)) i 0
-  unfolding packed
-  labels_at = sym (from_front reached_in)
+pub pasted_is : (w v at : ℕ) (old new : List ℕ) → new ≡ paste old at (bytes w v) w → new ≡ take at old ++ bytes w v ++ drop (at + w) old
+pasted_is w v at old new e = e ∙ ap (λ (b : List ℕ). take at old ++ b ++ drop (at + w) old) (take_all w (bytes w v) (let l = length_bytes w v in omega arith))
 
--- ---- numbers in bytes
-pub spread_length : (w : ℕ) (vs : List ℕ) → length (spread w vs) ≡ w * length vs
-unfolding spread
-spread_length w [] = omega arith
-spread_length w (v ∷ vs) =
-    let a = length-append (bytes w v) (spread w vs) in
-    let b = length_bytes w v in
-    let c = spread_length w vs in
-    let d : w * length (v ∷ vs) ≡ w * length vs + w = mul-suc w (length vs) in
-    omega arith
+pub singles : (vs : List ℕ) → spelled (λ v. v ∷ []) vs ≡ vs
+unfolding spelled
+singles [] = refl
+singles (v ∷ vs) = ap (λ (z : List ℕ). v ∷ z) (singles vs)
 
-pub spread_at : (w : ℕ) (vs : List ℕ) (i b : ℕ) → i < length vs → b < w → get_or (spread w vs) (w * i + b) 0 ≡ get_or (bytes w (get_or vs i 0)) b 0
-unfolding spread
-spread_at w [] i b h k = absurd (omega arith)
-spread_at w (v ∷ vs) zero b h k =
-    let z : w * zero + b ≡ b = omega arith in
-    let l = length_bytes w v in
-    ap (λ (y : ℕ). get_or (bytes w v ++ spread w vs) y 0) z ∙ get_or-append (bytes w v) (spread w vs) 0 b (omega arith)
-spread_at w (v ∷ vs) (suc i) b h k =
-    let m : w * suc i ≡ w * i + w = mul-suc w i in
-    let l = length_bytes w v in
-    let z : w * suc i + b ≡ length (bytes w v) + (w * i + b) = omega arith in
-    ap (λ (y : ℕ). get_or (bytes w v ++ spread w vs) y 0) z ∙ get_or-append-add (bytes w v) (spread w vs) (w * i + b) 0 ∙ spread_at w vs i b (omega arith) k
+pub in_bytes : (w : ℕ) (vs : List ℕ) → spelled (bytes w) vs ≡ spread w vs
+unfolding spelled spread
+in_bytes w [] = refl
+in_bytes w (v ∷ vs) = ap (λ (z : List ℕ). bytes w v ++ z) (in_bytes w vs)
 
--- ---- numbers pasted at a place
-module _ (d : List ℕ) (at : ℕ) (s : List ℕ) (n : ℕ) (hd : at + n ≤ length d) (hs : n ≤ length s) where
-  head_length : length (take at d ++ take n s) ≡ at + n
-  head_length = length_paste_head d at s n (omega arith) hs
+-- ---- the reactions of rows, one field of each
+module _ (f : Reaction → ℕ) where
+  pub fields_length : (a : List Row) → length (map f (reactions_held a)) ≡ length a
+  fields_length a = length-map (reactions_held a) f ∙ held_length a
 
-  low_length : length (take at d) ≡ at
-  low_length = length-take-le at d (omega arith)
+  pub field_at : (a : List Row) (i : ℕ) (d : Row) → i < length a → get_or (map f (reactions_held a)) i 0 ≡ f (unpacked (get_or a i d)).reacts
+  unfolding reactions
+  field_at [] i d h = absurd (omega arith)
+  field_at (r ∷ a) zero d h = refl
+  field_at (r ∷ a) (suc i) d h = field_at a i d (omega arith)
 
-  paste_low : (j : ℕ) → j < at → get_or (paste d at s n) j 0 ≡ get_or d j 0
-  paste_low j h =
-      get_or-append (take at d ++ take n s) (drop (at + n) d) 0 j (omega (arith, head_length))
-      ∙ get_or-append (take at d) (take n s) 0 j (omega (arith, low_length)) ∙ get_or-take at d j 0 h
+-- the place i is a whole one
+place_in : (m i len : ℕ) → i < len / m → m * i + m ≤ len
+place_in m i len h = omega (arith, mul-le-mul_left m (let k : i + 1 ≤ len / m = omega arith in k), mul-div-le len m, mul-suc m i)
 
-  paste_there : (j : ℕ) → j < n → get_or (paste d at s n) (at + j) 0 ≡ get_or s j 0
-  paste_there j h =
-      get_or-append (take at d ++ take n s) (drop (at + n) d) 0 (at + j) (omega (arith, head_length))
-      ∙ ap (λ (k : ℕ). get_or (take at d ++ take n s) (k + j) 0) (sym low_length) ∙ get_or-append-add (take at d) (take n s) j 0 ∙ get_or-take n s j 0 h
+-- ---- the three buffers, of which i places are written
+pub record Filling {A B : Type 0} (f : ℕ → List A) (m : ℕ) (g : ℕ → List B) (c : ℕ) (a : List Row) (o₀ o : List A) (k₀ k : List ℕ) (l₀ l : List B) (i : ℕ) : Type 0 where
+  pub signals : Filled f m (map emitted_in (reactions_held a)) o₀ o i
+  pub codes : Filled (λ (v : ℕ). v ∷ []) 1 (map code_in (reactions_held a)) k₀ k i
+  pub labels : Filled g c (map reached_in (reactions_held a)) l₀ l i
 
-  paste_high : (j : ℕ) → at + n ≤ j → get_or (paste d at s n) j 0 ≡ get_or d j 0
-  paste_high j h =
-      let l = head_length in
-      let e : at + n + (j - length (take at d ++ take n s)) ≡ j = omega arith in
-      get_d_after (take at d ++ take n s) (drop (at + n) d) j (omega arith)
-      ∙ get_or-drop (at + n) d (j - length (take at d ++ take n s)) 0 ∙ ap (λ (z : ℕ). get_or d z 0) e
+module _ {A B : Type 0} (f : ℕ → List A) (m : ℕ) (g : ℕ → List B) (c : ℕ) (a : List Row) (o₀ : List A) (k₀ : List ℕ) (l₀ : List B) where
+  pub filling_none : Filling f m g c a o₀ o₀ k₀ k₀ l₀ l₀ 0
+  filling_none = record { signals = filled_none f m _ o₀; codes = filled_none (λ (v : ℕ). v ∷ []) 1 _ k₀; labels = filled_none g c _ l₀ }
 
--- one number more of w bytes
-pub filled_bytes : (w : ℕ) (vs old new next : List ℕ) (i v : ℕ) → Filled (spread w vs) old new (w * i) → i < length vs → v ≡ get_or vs i 0 → w * i + w ≤ length old
-    → next ≡ paste new (w * i) (bytes w v) w → Filled (spread w vs) old next (w * (i + 1))
-filled_bytes w vs old new next i v f h e fits p = subst (Filled (spread w vs) old next) (sym (ap (λ (z : ℕ). w * z) (add-one i) ∙ mul-suc w i)) (record {
-  same = ap length p ∙ length-paste new (w * i) (bytes w v) w room long ∙ f.same;
-  done = λ j k. go j k (dec_lt j (w * i));
-  rest = λ j k. ap (λ (z : List ℕ). get_or z j 0) p ∙ paste_high new (w * i) (bytes w v) w room long j k ∙ f.rest j (omega arith);
-})
-  where
-    room : w * i + w ≤ length new
-    room = let s = f.same in omega arith
+  module _ {o : List A} {k : List ℕ} {l : List B} {i : ℕ} (h : Filling f m g c a o₀ o k₀ k l₀ l i) where
+    pub filling_step : {o' : List A} {l' : List B} (s t u : ℕ) (d : Row) → i < length a
+        → s ≡ (unpacked (get_or a i d)).reacts.emitted → length o' ≡ length o → o' ≡ take (m * i) o ++ f s ++ drop (m * i + m) o
+        → t ≡ (unpacked (get_or a i d)).reacts.code
+        → u ≡ (unpacked (get_or a i d)).reacts.reached → length l' ≡ length l → l' ≡ take (c * i) l ++ g u ++ drop (c * i + c) l
+        → {x y z : ℕ} → x ≡ length o₀ / m → y ≡ min x (length k₀) → z ≡ length l₀ / c → length a ≤ min y z → Filling f m g c a o₀ o' k₀ (set k i t) l₀ l' (i + 1)
+    filling_step s t u d q so sl sp to uo ul up first second third few = record {
+      signals = filled_step f m _ o₀ h.signals s (inside emitted_in) (so ∙ sym (field_at emitted_in a i d q)) (place_in m i (length o₀) (omega arith)) sl sp;
+      codes = filled_step (λ (v : ℕ). v ∷ []) 1 _ k₀ h.codes t (inside code_in) (to ∙ sym (field_at code_in a i d q)) (omega arith) (length-set k i t)
+          (set_is k i t (let w = h.codes.within in omega arith));
+      labels = filled_step g c _ l₀ h.labels u (inside reached_in) (uo ∙ sym (field_at reached_in a i d q)) (place_in c i (length l₀) (omega arith)) ul up;
+    }
+      where
+        inside : (field : Reaction → ℕ) → i < length (map field (reactions_held a))
+        inside field = let w = fields_length field a in omega arith
 
-    long : w ≤ length (bytes w v)
-    long = let l = length_bytes w v in omega arith
-
-    go : (j : ℕ) → j < w * i + w → Dec (j < w * i) → get_or next j 0 ≡ get_or (spread w vs) j 0
-    go j k (yes l) = ap (λ (z : List ℕ). get_or z j 0) p ∙ paste_low new (w * i) (bytes w v) w room long j l ∙ f.done j l
-    go j k (no l) =
-        let b : w * i + (j - w * i) ≡ j = omega arith in
-        ap (λ (z : List ℕ). get_or z j 0) p ∙ ap (λ (z : ℕ). get_or (paste new (w * i) (bytes w v) w) z 0) (sym b)
-        ∙ paste_there new (w * i) (bytes w v) w room long (j - w * i) (omega arith) ∙ ap (λ (z : ℕ). get_or (bytes w z) (j - w * i) 0) e
-        ∙ sym (spread_at w vs i (j - w * i) h (omega arith)) ∙ ap (λ (z : ℕ). get_or (spread w vs) z 0) b
+  pub filling_all : {o : List A} {k : List ℕ} {l : List B} {i : ℕ} → Filling f m g c a o₀ o k₀ k l₀ l i → i ≡ length a
+      → (o ≡ front (spelled f (map emitted_in (reactions_held a))) o₀) × (k ≡ front (map code_in (reactions_held a)) k₀) × (l ≡ front (spelled g (map reached_in (reactions_held a))) l₀)
+  filling_all {o} {k} {l} {i} h e = (
+    filled_all f m _ o₀ h.signals (ends emitted_in),
+    filled_all (λ (v : ℕ). v ∷ []) 1 _ k₀ h.codes (ends code_in) ∙ ap (λ (vs : List ℕ). front vs k₀) (singles (map code_in (reactions_held a))),
+    filled_all g c _ l₀ h.labels (ends reached_in),
+  )
+    where
+      ends : (field : Reaction → ℕ) → i ≡ length (map field (reactions_held a))
+      ends field = e ∙ sym (fields_length field a)

@@ -89,7 +89,7 @@ module _ {n : ℕ} {xs : List ℕ} (p : Passable n xs) where
   onward_node : (at : ℕ) → at < n → onward n xs at ≡ get_or xs at 0 ∷ onward n xs (at + 1)
   onward_node at h =
       let e : suc at ≡ at + 1 = omega arith in
-      let l = length-take-le n xs (omega (arith, p.all, p.few)) in
+      let l = length-take-le n xs (p.all) in
       drop-cons (take n xs) at 0 (omega arith) ∙ ap₂ (λ (x : ℕ) (ys : List ℕ). x ∷ ys) (get_or-take n xs at 0 h) (ap (λ (i : ℕ). drop i (take n xs)) e)
 
   pub here_pause : {at : ℕ} → at < n → kind_of_node (get_or xs at 0) ≡ 1

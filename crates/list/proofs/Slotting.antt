@@ -2,16 +2,13 @@
 use mathlib.Core.Path.{◌≡◌, sym, ◌∙◌, subst}
 use mathlib.Core.Logic.{◌⊎◌, inl, inr}
 use mathlib.Core.Bool.{true}
-use mathlib.Core.List.{List}
 use Prim.Native.Nat.{ℕ, ◌+◌, ◌≤◌, ◌<◌}
 use native.Mathlib.Omega.{arith}
-use lib.ListN.{get_or}
 use Rattle.sets.specs.Set.{has, only, ◌union◌, Within, count}
 use Rattle.sets.proofs.Booleans.{or_cases, clash}
 use Rattle.sets.proofs.Counts.{count_empty, count_only, count_union, count_narrow}
 use Rattle.sets.proofs.Members.{has_empty, has_union, has_only_equal, in_left}
 use Rattle.esterel.specs.inner.Conditions.{slot_of}
-use Rattle.lister.specs.inner.Notes.{EndsFrom, Startable}
 use Rattle.lister.specs.inner.Slots.{Slotted}
 
 -- beside the unknown signals U others were taken, so many at most in all
@@ -49,8 +46,3 @@ taken_slotted t h = record { few = let f = t.fits in omega arith; narrow = t.nar
 -- no signal is unknown
 pub none_slotted : Slotted 0 0
 none_slotted = record { few = let e = count_empty 32 in omega arith; narrow = λ S h. clash h (has_empty S); within = λ S h. h }
-
--- the root ends within the room for nodes
-pub root_end : {xs ends : List ℕ} → Startable xs ends 0 → get_or ends 0 0 ≤ 1024
-unfolding EndsFrom
-root_end s = let e = s.right 0 (omega arith) s.whole in let f = s.whole.within in let g = s.few in omega arith

@@ -1,13 +1,12 @@
 -- What list answers, for every list of bytes.
-use Rattle.std.specs.Prelude.{cond, ◌||◌, List, [], ◌∷◌, ℕ, zero, suc, ltb, length}
+use Rattle.std.specs.Prelude.{cond, ◌||◌, List, [], ◌∷◌, ℕ, zero, suc, ltb, length, Result}
 use Rattle.esterel.specs.Statement.{Statement}
 use Rattle.esterel.specs.Reactions.{State, start, resumed, Reaction}
 use Rattle.esterel.specs.Listing.{listing, crowded, nesting}
-use Rattle.table.specs.Outcomes.{Outcome, refusal, values}
+use Rattle.table.specs.declared.Refusal.{Refusal}
+use Rattle.table.specs.Outcomes.{Outcome, refusal, values, outcome}
 use Rattle.table.specs.Reading.{Table, table_of}
 use Rattle.table.specs.Reading as table
-use Rattle.list.specs.declared.Answer.{Answer}
-use Rattle.list.specs.declared.Answer.TheVariants.{Refused, Listed}
 
 -- "a mark (0 the start, whose label set is then ignored; any other number a resumed state) and a label set"
 unfoldable pub state_of : ℕ → ℕ → State
@@ -48,6 +47,5 @@ listing_outcome (refused w) = refusal w
 listing_outcome (listed ts) = values (length ts ∷ [])
 
 -- what is said of an answer of list, case by case: the refusal, or the count
-unfoldable pub answer_outcome : Answer → Outcome
-answer_outcome (Refused w) = refusal w
-answer_outcome (Listed n) = values (n ∷ [])
+abbrev pub answer_outcome : Result ℕ Refusal → Outcome
+answer_outcome = outcome (λ n. n ∷ [])

@@ -1,10 +1,7 @@
 pub mod Nodes
-pub mod Fields
 pub mod Naming
-pub mod Clashes
 pub mod Slots
 pub mod Joins
-pub mod Signals
 pub mod Starts
-pub mod Rooms
+pub mod Signals
 pub mod Resumes

@@ -1,43 +1,38 @@
 -- Whether an emit or a present of a statement names a signal, read off its nodes one after the other.
 use mathlib.Core.Path.{◌≡◌, refl, sym, ap, ap₂, ◌∙◌}
 use mathlib.Core.Bool.{Bool, true, false, ◌&&◌, ◌||◌}
-use mathlib.Core.List.{List}
+use mathlib.Core.List.{List, ◌∷◌}
 use Prim.Native.Nat.{ℕ, zero, suc, ◌+◌, ◌-◌, ◌≤◌, ◌<◌}
 use native.Mathlib.Omega.{arith}
 use native.Mathlib.Decide.{ℕ_discrete}
 use lib.Dec.{eqb}
-use lib.ListN.{get_or}
+use lib.ListN.{length, get_or, take, drop}
+use Rattle.std.specs.List.{list_any}
+use Rattle.std.proofs.lemmas.List.Folds.{list_any-append}
+use Rattle.std.proofs.Math.Seq.{take-add, drop-cons}
+use Rattle.std.proofs.lemmas.List.{drop-drop}
+use Rattle.std.proofs.Common.{add-one}
 use borrow.Author.Tests.{eq-eqb, ne_eqb}
 use Rattle.esterel.specs.Statement.{Statement, nothing, pause, gotopause, emit, exit, signal, present, sequence, parallel, loop, try, size, depth}
 use Rattle.esterel.specs.Trimming.{names}
 use Rattle.table.specs.Reading.{kind_of_node, operand_of}
-use Rattle.table.specs.inner.Places.{Placed, placed, Known}
+use Rattle.table.specs.inner.Places.{Placed, placed}
 use Rattle.table.proofs.Places.{next_short}
-use Rattle.lister.specs.inner.Notes.{place_at, part_at, names_at, ReadWhole, EndsFrom, Startable}
-use Rattle.lister.proofs.Nodes.{One, Two, is_nothing_lem, is_pause, is_gotopause, is_emit, is_exit, is_signal, is_present, is_sequence, is_parallel, is_loop, is_try}
+use Rattle.lister.specs.declared.noted.Noted.{Noted}
+use Rattle.lister.specs.inner.Notes.{unnoted, place_at, part_at, names_at, ReadWhole, KnownTo}
+use Rattle.lister.proofs.Nodes.{One, Two, inside, before_end, is_nothing_lem, is_pause, is_gotopause, is_emit, is_exit, is_signal, is_present, is_sequence, is_parallel, is_loop, is_try}
 
 -- one of the n nodes from a place on names S
-unfoldable pub named_in : ℕ → List ℕ → ℕ → ℕ → Bool
-named_in S xs at zero = false
-named_in S xs at (suc n) = names_at S (get_or xs at 0) || named_in S xs (at + 1) n
+abbrev pub named_in : ℕ → List ℕ → ℕ → ℕ → Bool
+named_in S xs at n = list_any (names_at S) (take n (drop at xs))
 
-or_group : (a b c : Bool) → ((a || b) || c) ≡ (a || (b || c))
-or_group true b c = refl
-or_group false b c = refl
+named_step : (S : ℕ) (xs : List ℕ) (at n : ℕ) → at < length xs → named_in S xs at (suc n) ≡ (names_at S (get_or xs at 0) || named_in S xs (at + 1) n)
+named_step S xs at n h = let e : drop at xs ≡ get_or xs at 0 ∷ drop (at + 1) xs = rw (add-one, drop-cons xs at 0) in ap (λ (l : List ℕ). list_any (names_at S) (take (suc n) l)) e
 
 named_split : (S : ℕ) (xs : List ℕ) (at m n : ℕ) → named_in S xs at (m + n) ≡ (named_in S xs at m || named_in S xs (at + m) n)
-unfolding named_in
-named_split S xs at zero n =
-    let e : zero + n ≡ n = omega arith in
-    let g : at ≡ at + zero = omega arith in
-    ap (named_in S xs at) e ∙ ap (λ (z : ℕ). named_in S xs z n) g
-named_split S xs at (suc m) n =
-    let e : suc m + n ≡ suc (m + n) = omega arith in
-    let g : at + 1 + m ≡ at + suc m = omega arith in
-    let x = names_at S (get_or xs at 0) in
-    ap (named_in S xs at) e
-    ∙ ap (λ (b : Bool). x || b) (named_split S xs (at + 1) m n ∙ ap (λ (z : ℕ). named_in S xs (at + 1) m || named_in S xs z n) g)
-    ∙ sym (or_group x (named_in S xs (at + 1) m) (named_in S xs (at + suc m) n))
+named_split S xs at m n =
+    ap (list_any (names_at S)) (take-add m n (drop at xs)) ∙ list_any-append (names_at S) (take m (drop at xs)) (take n (drop m (drop at xs)))
+    ∙ ap (λ (l : List ℕ). named_in S xs at m || list_any (names_at S) (take n l)) (drop-drop m at xs)
 
 -- ---- one node
 eqb_swap : (m n : ℕ) → eqb m n ≡ eqb n m
@@ -61,7 +56,6 @@ or_false false = refl
 
 module _ (S x k : ℕ) (e : kind_of_node x ≡ k) where
   by_kind : names_at S x ≡ (eqb (operand_of x) S && (eqb k 3 || eqb k 6))
-  unfolding names_at
   by_kind = ap (λ (z : ℕ). eqb (operand_of x) S && (eqb z 3 || eqb z 6)) e
 
   names_not : (eqb k 3 || eqb k 6) ≡ false → names_at S x ≡ false
@@ -69,23 +63,6 @@ module _ (S x k : ℕ) (e : kind_of_node x ≡ k) where
 
   names_own : (eqb k 3 || eqb k 6) ≡ true → names_at S x ≡ eqb S (operand_of x)
   names_own h = by_kind ∙ ap (λ (b : Bool). eqb (operand_of x) S && b) h ∙ and_true (eqb (operand_of x) S) ∙ eqb_swap (operand_of x) S
-
--- the tests in the order of the code: o is the operand, k the kind
-module _ (S x o : ℕ) (f : o ≡ operand_of x) where
-  pub names_other : (o ≡ S → ⊥) → false ≡ names_at S x
-  unfolding names_at
-  names_other h = sym (ap (λ (b : Bool). b && (eqb (kind_of_node x) 3 || eqb (kind_of_node x) 6)) (ne_eqb (operand_of x) S (λ e. h (f ∙ e))))
-
-  same_operand : o ≡ S → names_at S x ≡ (eqb (kind_of_node x) 3 || eqb (kind_of_node x) 6)
-  unfolding names_at
-  same_operand h = ap (λ (b : Bool). b && (eqb (kind_of_node x) 3 || eqb (kind_of_node x) 6)) (eq-eqb (operand_of x) S (sym f ∙ h))
-
-  pub names_emit : o ≡ S → (k : ℕ) → k ≡ kind_of_node x → k ≡ 3 → true ≡ names_at S x
-  names_emit h k e z = sym (same_operand h ∙ ap (λ (b : Bool). b || eqb (kind_of_node x) 6) (eq-eqb (kind_of_node x) 3 (sym e ∙ z)))
-
-  pub names_present : o ≡ S → (k : ℕ) → k ≡ kind_of_node x → (k ≡ 3 → ⊥) → eqb k 6 ≡ names_at S x
-  names_present h k e z =
-      sym (same_operand h ∙ ap (λ (b : Bool). b || eqb (kind_of_node x) 6) (ne_eqb (kind_of_node x) 3 (λ w. z (e ∙ w))) ∙ ap (λ (i : ℕ). eqb i 6) (sym e))
 
 -- ---- by the kind of the node
 module _ (S n : ℕ) (xs : List ℕ) where
@@ -96,25 +73,22 @@ module _ (S n : ℕ) (xs : List ℕ) where
     abbrev here : Bool
     here = names_at S (get_or xs at 0)
 
-    named_leaf : (p : Statement) → place_at xs at ≡ placed p (at + 1) → size p ≡ 1 → names S p ≡ here → Named at
-    unfolding named_in
-    named_leaf p e s h =
+    named_leaf : at < length xs → (p : Statement) → place_at xs at ≡ placed p (at + 1) → size p ≡ 1 → names S p ≡ here → Named at
+    named_leaf i p e s h =
         let q : part_at xs at ≡ p = ap (λ (r : Placed). r.statement) e in
-        ap (λ (z : Statement). named_in S xs at (size z)) q ∙ ap (named_in S xs at) s ∙ or_false here ∙ sym h ∙ ap (names S) (sym q)
+        ap (λ (z : Statement). named_in S xs at (size z)) q ∙ ap (named_in S xs at) s ∙ named_step S xs at 0 i ∙ or_false here ∙ sym h ∙ ap (names S) (sym q)
 
-    named_one : (f : Statement → Statement) → One n xs at f → ((p : Statement) → size (f p) ≡ suc (size p)) → ((p : Statement) → names S (f p) ≡ names S p) → here ≡ false
+    named_one : at < length xs → (f : Statement → Statement) → One n xs at f → ((p : Statement) → size (f p) ≡ suc (size p)) → ((p : Statement) → names S (f p) ≡ names S p) → here ≡ false
         → Named (at + 1) → Named at
-    unfolding named_in
-    named_one f o s g h ih =
+    named_one i f o s g h ih =
         let p : Statement = part_at xs (at + 1) in
         let q : part_at xs at ≡ f p = ap (λ (r : Placed). r.statement) o.is in
-        ap (λ (z : Statement). named_in S xs at (size z)) q ∙ ap (named_in S xs at) (s p) ∙ ap (λ (b : Bool). b || named_in S xs (at + 1) (size p)) h
+        ap (λ (z : Statement). named_in S xs at (size z)) q ∙ ap (named_in S xs at) (s p) ∙ named_step S xs at (size p) i ∙ ap (λ (b : Bool). b || named_in S xs (at + 1) (size p)) h
         ∙ ih ∙ sym (g p) ∙ ap (names S) (sym q)
 
-    named_two : (f : Statement → Statement → Statement) → Two n xs at f → ((p q : Statement) → size (f p q) ≡ suc (size p + size q))
+    named_two : at < length xs → (f : Statement → Statement → Statement) → Two n xs at f → ((p q : Statement) → size (f p q) ≡ suc (size p + size q))
         → ((p q : Statement) → names S (f p q) ≡ (here || (names S p || names S q))) → Named (at + 1) → Named (place_at xs (at + 1)).next → Named at
-    unfolding named_in
-    named_two f t s g ih jh =
+    named_two i f t s g ih jh =
         let next = (place_at xs (at + 1)).next in
         let p : Statement = part_at xs (at + 1) in
         let q : Statement = part_at xs next in
@@ -122,7 +96,7 @@ module _ (S n : ℕ) (xs : List ℕ) where
         let a = t.first.full in
         let b = next_short xs 60 (at + 1) in
         let after : at + 1 + size p ≡ next = omega arith in
-        ap (λ (z : Statement). named_in S xs at (size z)) w ∙ ap (named_in S xs at) (s p q)
+        ap (λ (z : Statement). named_in S xs at (size z)) w ∙ ap (named_in S xs at) (s p q) ∙ named_step S xs at (size p + size q) i
         ∙ ap (λ (b : Bool). here || b) (named_split S xs (at + 1) (size p) (size q)
         ∙ ap₂ ◌||◌ ih (ap (λ (z : ℕ). named_in S xs z (size q)) after ∙ jh)) ∙ sym (g p q) ∙ ap (names S) (sym w)
 
@@ -139,42 +113,42 @@ module _ (S n : ℕ) (xs : List ℕ) where
 
     at_nothing : kind ≡ 0 → Named at
     unfolding names size
-    at_nothing e = named_leaf at nothing (is_nothing_lem w e) refl (sym (names_not S x 0 e refl))
+    at_nothing e = named_leaf at (inside w) nothing (is_nothing_lem w e) refl (sym (names_not S x 0 e refl))
 
     at_pause : kind ≡ 1 → Named at
     unfolding names size
-    at_pause e = named_leaf at (pause (operand_of x)) (is_pause w e) refl (sym (names_not S x 1 e refl))
+    at_pause e = named_leaf at (inside w) (pause (operand_of x)) (is_pause w e) refl (sym (names_not S x 1 e refl))
 
     at_gotopause : kind ≡ 2 → Named at
     unfolding names size
-    at_gotopause e = named_leaf at (gotopause (operand_of x)) (is_gotopause w e) refl (sym (names_not S x 2 e refl))
+    at_gotopause e = named_leaf at (inside w) (gotopause (operand_of x)) (is_gotopause w e) refl (sym (names_not S x 2 e refl))
 
     at_emit : kind ≡ 3 → Named at
     unfolding names size
-    at_emit e = named_leaf at (emit (operand_of x)) (is_emit w e) refl (sym (names_own S x 3 e refl))
+    at_emit e = named_leaf at (inside w) (emit (operand_of x)) (is_emit w e) refl (sym (names_own S x 3 e refl))
 
     at_exit : kind ≡ 4 → Named at
     unfolding names size
-    at_exit e = named_leaf at (exit (operand_of x)) (is_exit w e) refl (sym (names_not S x 4 e refl))
+    at_exit e = named_leaf at (inside w) (exit (operand_of x)) (is_exit w e) refl (sym (names_not S x 4 e refl))
 
     one_below : (f : Statement → Statement) → One n xs at f → Named (at + 1)
     one_below f o = ih (at + 1) o.first o.less
 
     at_signal : kind ≡ 5 → Named at
     unfolding names size
-    at_signal e = let o = is_signal w e in named_one at (signal (operand_of x)) o (λ p. refl) (λ p. refl) (names_not S x 5 e refl) (one_below (signal (operand_of x)) o)
+    at_signal e = let o = is_signal w e in named_one at (inside w) (signal (operand_of x)) o (λ p. refl) (λ p. refl) (names_not S x 5 e refl) (one_below (signal (operand_of x)) o)
 
     at_loop : kind ≡ 9 → Named at
     unfolding names size
-    at_loop e = let o = is_loop w e in named_one at loop o (λ p. refl) (λ p. refl) (names_not S x 9 e refl) (one_below loop o)
+    at_loop e = let o = is_loop w e in named_one at (inside w) loop o (λ p. refl) (λ p. refl) (names_not S x 9 e refl) (one_below loop o)
 
     at_try : kind ≡ 10 → Named at
     unfolding names size
-    at_try e = let o = is_try w e in named_one at try o (λ p. refl) (λ p. refl) (names_not S x 10 e refl) (one_below try o)
+    at_try e = let o = is_try w e in named_one at (inside w) try o (λ p. refl) (λ p. refl) (names_not S x 10 e refl) (one_below try o)
 
     two_below : (f : Statement → Statement → Statement) → Two n xs at f → ((p q : Statement) → size (f p q) ≡ suc (size p + size q))
         → ((p q : Statement) → names S (f p q) ≡ (here at || (names S p || names S q))) → Named at
-    two_below f t s g = named_two at f t s g (ih (at + 1) t.first t.less.0) (ih (place_at xs (at + 1)).next t.second t.less.1)
+    two_below f t s g = named_two at (inside w) f t s g (ih (at + 1) t.first t.less.0) (ih (place_at xs (at + 1)).next t.second t.less.1)
 
     at_present : kind ≡ 6 → Named at
     unfolding names size
@@ -202,38 +176,19 @@ module _ (S n : ℕ) (xs : List ℕ) where
     at_kind (suc (suc (suc (suc (suc (suc (suc (suc (suc (suc zero)))))))))) e h = at_try e
     at_kind (suc (suc (suc (suc (suc (suc (suc (suc (suc (suc (suc k))))))))))) e h = absurd (omega arith)
 
-  named_at : Known xs → (d at : ℕ) → depth (part_at xs at) < d → Whole at → Named at
+  named_at : KnownTo n xs → (d at : ℕ) → depth (part_at xs at) < d → Whole at → Named at
   named_at f zero at h w = absurd (omega arith)
-  named_at f (suc d) at h w = at_kind at w (λ i v l. named_at f d i (omega arith) v) (kind_of_node (get_or xs at 0)) refl (f at)
+  named_at f (suc d) at h w = at_kind at w (λ i v l. named_at f d i (omega arith) v) (kind_of_node (get_or xs at 0)) refl (f at (before_end w))
 
 -- ---- from a place to the end that is noted of it
-module _ {xs ends : List ℕ} {at : ℕ} (r : Startable xs ends at) (S : ℕ) where
-  ends_at : get_or ends at 0 ≡ at + size (part_at xs at)
-  unfolding EndsFrom
-  ends_at = let e = r.right at (omega arith) r.whole in let a = r.whole.full in let b = next_short xs 60 at in omega arith
+module _ (s : Noted) {at : ℕ} (w : ReadWhole s.count s.nodes at) (S : ℕ) where
+  abbrev end : ℕ
+  end = (get_or s.notes at unnoted).end
 
-  pub named_here : named_in S xs at (get_or ends at 0 - at) ≡ names S (part_at xs at)
+  ends_at : end ≡ at + size (part_at s.nodes at)
+  ends_at = let e = s.ends at (omega arith) w in let a = w.full in let b = next_short s.nodes 60 at in omega arith
+
+  pub named_here : named_in S s.nodes at (end - at) ≡ names S (part_at s.nodes at)
   named_here =
-      let e : get_or ends at 0 - at ≡ size (part_at xs at) = let h = ends_at in omega arith in
-      ap (named_in S xs at) e ∙ named_at S r.count xs r.known (depth (part_at xs at) + 1) at (omega arith) r.whole
-
-  pub end_few : (get_or ends at 0 ≤ 1024) × (at ≤ get_or ends at 0)
-  unfolding EndsFrom
-  end_few = let e = r.right at (omega arith) r.whole in let a = r.whole.within in let b = r.few in let c = ends_at in (omega arith, omega arith)
-
--- one node on
-pub named_next : (S : ℕ) (xs : List ℕ) (i end : ℕ) → i < end → names_at S (get_or xs i 0) ≡ false → named_in S xs (i + 1) (end - (i + 1)) ≡ named_in S xs i (end - i)
-unfolding named_in
-named_next S xs i end h e =
-    let g : end - i ≡ suc (end - (i + 1)) = omega arith in
-    sym (ap (named_in S xs i) g ∙ ap (λ (b : Bool). b || named_in S xs (i + 1) (end - (i + 1))) e)
-
-pub named_found : (S : ℕ) (xs : List ℕ) (i end : ℕ) → i < end → names_at S (get_or xs i 0) ≡ true → true ≡ named_in S xs i (end - i)
-unfolding named_in
-named_found S xs i end h e =
-    let g : end - i ≡ suc (end - (i + 1)) = omega arith in
-    sym (ap (named_in S xs i) g ∙ ap (λ (b : Bool). b || named_in S xs (i + 1) (end - (i + 1))) e)
-
-pub named_nowhere : (S : ℕ) (xs : List ℕ) (i end : ℕ) → end ≤ i → false ≡ named_in S xs i (end - i)
-unfolding named_in
-named_nowhere S xs i end h = let g : end - i ≡ 0 = omega arith in sym (ap (named_in S xs i) g)
+      let e : end - at ≡ size (part_at s.nodes at) = let h = ends_at in omega arith in
+      ap (named_in S s.nodes at) e ∙ named_at S s.count s.nodes s.known (depth (part_at s.nodes at) + 1) at (omega arith) w

@@ -11,13 +11,9 @@ use Rattle.esterel.specs.Statement.{Statement, nothing, pause, gotopause, emit, 
 use Rattle.esterel.proofs.Sizes.{size_positive}
 use Rattle.table.specs.Kinds.{kinds, kind_of}
 use Rattle.table.specs.Reading.{kind_of_node, operand_of}
-use Rattle.table.specs.inner.Places.{Placed, placed, place_one, place_two, place_kind, statement_at, Known}
+use Rattle.table.specs.inner.Places.{Placed, placed, place_one, place_two, place_kind, statement_at}
 use Rattle.table.proofs.Places.{placed_node, placed_none, next_short, two_same, deeper_same}
 use Rattle.lister.specs.inner.Notes.{place_at, part_at, ReadWhole}
-
--- no node is of a kind above 10
-pub not_known : (xs : List ℕ) (at k : ℕ) → Known xs → k ≡ kind_of_node (get_or xs at 0) → 11 ≤ k → ⊥
-not_known xs at k f e h = let b = f at in omega arith
 
 -- ---- A statement that is read whole
 whole_by : {n : ℕ} {xs : List ℕ} {at : ℕ} (p : Placed) → place_at xs at ≡ p → depth p.statement ≤ 60 → at + size p.statement ≤ p.next → p.next ≤ n → ReadWhole n xs at
@@ -143,3 +139,7 @@ module _ {n : ℕ} {xs : List ℕ} {at : ℕ} (w : ReadWhole n xs at) where
   pub is_try : kind_of_node (get_or xs at 0) ≡ 10 → One n xs at try
   unfolding place_kind kind_of kinds depth size
   is_try e = one_child try (λ p. refl) (λ p. refl) (node_is 10 e)
+
+-- of no node nothing is read whole
+pub none_whole : {xs : List ℕ} {at : ℕ} → ReadWhole 0 xs at → ⊥
+none_whole w = let b = before_end w in omega arith

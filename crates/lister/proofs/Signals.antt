@@ -1,145 +1,136 @@
--- The list of a signal statement, started or resumed, from what was made of its body: the body's own where it does not name the
--- signal, the attempt with the signal unknown, or, where that gave up, the lists with it present and with it absent.
-use mathlib.Core.Path.{◌≡◌, refl, sym, ap, ap₂, ◌∙◌}
-use mathlib.Core.Bool.{Bool, true, false, cond}
+-- The rows of a signal statement, started or resumed, from those of its body: the body's own where it does not name the signal;
+-- else with the signal unknown; or, where that gave up, with it present and with it absent.
+use mathlib.Core.Path.{◌≡◌, refl, sym, ap, ap₂, ◌∙◌, subst}
+use mathlib.Core.Bool.{Bool, true, false, not, ◌&&◌, cond, true≢false}
 use mathlib.Core.List.{List, ◌++◌}
 use mathlib.Core.Option.{none}
 use Prim.Native.Nat.{ℕ, ◌+◌}
-use native.Mathlib.Omega.{arith}
 use lib.Dec.{eqb}
 use lib.ListN.{length, get_or}
 use borrow.Author.Tests.{eq-eqb, ne_eqb}
+use Rattle.std.proofs.Common.{Result, Ok, Err}
 use Rattle.sets.specs.Set.{has, only, ◌union◌, ◌without◌}
+use Rattle.sets.proofs.Members.{has_minus, has_empty, ext}
 use Rattle.esterel.specs.Statement.{Statement, signal}
 use Rattle.esterel.specs.Reactions.{State, start}
 use Rattle.esterel.specs.Trimming.{names}
 use Rattle.esterel.specs.inner.Conditions.{slot_of}
-use Rattle.esterel.specs.inner.Rows.{Row, local_rows}
+use Rattle.esterel.specs.inner.Rows.{each_row, local_row, local_rows, hide_rows}
 use Rattle.esterel.specs.inner.CappedRows.{CappedRows, change_rows, join_rows, otherwise, given_up, twice_rows, capped_rows}
 use Rattle.table.specs.Reading.{kind_of_node, operand_of}
 use Rattle.table.specs.inner.Places.{Placed}
-use Rattle.area.specs.declared.Change.TheVariants.{Hide, Local}
-use Rattle.area.specs.inner.Rules.{change}
-use Rattle.area.specs.inner.Area.{Low, Made}
-use Rattle.area.proofs.Rules.{change_hide, change_local}
-use Rattle.area.proofs.Made.{made_as}
-use Rattle.lister.specs.inner.Notes.{part_at, Startable}
+use Rattle.rows.specs.declared.row.Row.{Row as Packed}
+use Rattle.rows.specs.declared.lists.Unlisted.{Unlisted}
+use Rattle.rows.specs.declared.lists.Unlisted.TheVariants.{Over, Cramped, Refused}
+use Rattle.rows.specs.inner.Rules.{hide_row}
+use Rattle.rows.specs.inner.Area.{Made}
+use Rattle.rows.proofs.Rules.{change_hide, change_local}
+use Rattle.lister.specs.declared.noted.Noted.{Noted}
+use Rattle.lister.specs.declared.presence.Presence.{Presence}
+use Rattle.lister.specs.inner.Notes.{part_at, ReadWhole}
+use Rattle.lister.specs.inner.Joins.{rows_under, Altered, is_over}
 use Rattle.lister.proofs.Nodes.{is_signal}
+use Rattle.rows.proofs.Merges.{made_as}
+use Rattle.lister.proofs.Joins.{changed, changed_as}
 
 -- once, with S unknown, where it has a slot
-abbrev pub attempted : ℕ → ℕ → Statement → State → ℕ → ℕ → CappedRows
-attempted M S p x E U = cond (has M S) (change_rows (local_rows S (slot_of M S)) (capped_rows M p x E (U union only S))) none
-
--- with S present and with S absent, where no signal is unknown; else given up
-abbrev exactly : ℕ → ℕ → Statement → State → ℕ → ℕ → CappedRows
-exactly M S p x E U = cond (eqb U 0) (twice_rows S (capped_rows M p x (E union only S) 0) (capped_rows M p x (E without S) 0)) (given_up x p)
+abbrev pub attempted : Presence → ℕ → Statement → State → CappedRows
+attempted g S p x = cond (has g.slotted S) (change_rows (local_rows S (slot_of g.slotted S)) (capped_rows g.slotted p x g.assumed (g.unknown union only S))) none
 
 pub start_given_up : (p : Statement) → given_up start p ≡ none
 unfolding given_up
 start_given_up p = refl
 
--- there is no list from the attempt, which wrote nothing below base
-pub record GaveUp (a b : List ℕ) (base : ℕ) (v : CappedRows) : Type 0 where
-  pub same : length b ≡ length a
-  pub low : Low base a b
-  pub none_made : v ≡ none
+-- ---- the signals inside: S is unknown, is present, is absent
+under_as : (h : Presence) {M E U : ℕ} (p : Statement) (x : State) → h.slotted ≡ M → h.assumed ≡ E → h.unknown ≡ U → rows_under h p x ≡ capped_rows M p x E U
+under_as h {M} {E} {U} p x e f k =
+    ap (λ (z : ℕ). capped_rows z p x h.assumed h.unknown) e ∙ ap₂ (λ (y z : ℕ). capped_rows M p x y z) f k
 
-module _ {xs ends : List ℕ} {at : ℕ} (ready : Startable xs ends at) (e : kind_of_node (get_or xs at 0) ≡ 5) (S : ℕ) (f : S ≡ operand_of (get_or xs at 0)) (M : ℕ) (x : State) (E U : ℕ) where
-  signal_at : part_at xs at ≡ signal S (part_at xs (at + 1))
-  signal_at = ap (λ (q : Placed). q.statement) (is_signal ready.whole e).is ∙ ap (λ (z : ℕ). signal z (part_at xs (at + 1))) (sym f)
+-- no signal is unknown, so none is without S
+known_still : {U : ℕ} (S : ℕ) → U ≡ 0 → U without S ≡ 0
+known_still {U} S e = ap (λ (z : ℕ). z without S) e ∙ ext (0 without S) 0 (λ x. has_minus 0 (only S) x ∙ ap (λ (b : Bool). b && not (has (only S) x)) (has_empty x) ∙ sym (has_empty x))
 
-  by_name : (b : Bool) → names S (part_at xs (at + 1)) ≡ b
-      → capped_rows M (part_at xs at) x E U
-      ≡ cond b (otherwise (attempted M S (part_at xs (at + 1)) x E U) (exactly M S (part_at xs (at + 1)) x E U)) (capped_rows M (part_at xs (at + 1)) x E U)
-  unfolding capped_rows
+-- ---- an attempt that gave up
+over_is : (r : Result ℕ Unlisted) → is_over r ≡ true → r ≡ Err Over
+over_is (Ok n) e = absurd (true≢false (sym e))
+over_is (Err Over) e = refl
+over_is (Err Cramped) e = absurd (true≢false (sym e))
+over_is (Err Refused) e = absurd (true≢false (sym e))
+
+module _ (g : Presence) (S : ℕ) (p : Statement) (x : State) where
+  -- h is g with S unknown, and l the slot of S
+  module _ (h : Presence) (slotted : h.slotted ≡ g.slotted) (assumed : h.assumed ≡ g.assumed) (unknown : h.unknown ≡ g.unknown union only S) (known : has g.slotted S ≡ true)
+      (l : ℕ) (slot : l ≡ slot_of g.slotted S) where
+    attempt_is : change_rows (λ ws. each_row ws (local_row S l)) (rows_under h p x) ≡ attempted g S p x
+    attempt_is =
+        changed_as (rows_under h p x) (λ ws i. change_local S l ws)
+        ∙ ap₂ (λ (i : ℕ) (v : CappedRows). change_rows (local_rows S i) v) slot (under_as h p x slotted assumed unknown)
+        ∙ ap (λ (z : Bool). cond z (change_rows (local_rows S (slot_of g.slotted S)) (capped_rows g.slotted p x g.assumed (g.unknown union only S))) none) (sym known)
+
+    module _ (a b : List Packed) (need : ℕ) (r r' : Result ℕ Unlisted) (e : length b ≡ length a) (m : Made a need (rows_under h p x) r) (c : Altered (local_row S l) r a b r') where
+      pub attempt_made : Made b need (attempted g S p x) r'
+      attempt_made = made_as need b attempt_is r' (changed (local_row S l) a b need (rows_under h p x) r r' e m c)
+
+      pub attempt_none : is_over r' ≡ true → attempted g S p x ≡ none
+      attempt_none k = subst (Made b need (attempted g S p x)) (over_is r' k) attempt_made
+
+  pub not_tried : has g.slotted S ≡ false → attempted g S p x ≡ none
+  not_tried h = ap (λ (z : Bool). cond z (change_rows (local_rows S (slot_of g.slotted S)) (capped_rows g.slotted p x g.assumed (g.unknown union only S))) none) h
+
+  -- S is present, and its emission is hidden; and S is absent
+  abbrev pub present_rows : CappedRows
+  present_rows = change_rows (hide_rows S) (capped_rows g.slotted p x (g.assumed union only S) 0)
+
+  abbrev pub absent_rows : CappedRows
+  absent_rows = capped_rows g.slotted p x (g.assumed without S) 0
+
+  pub present_is : g.unknown ≡ 0 → (on : Presence) → on.slotted ≡ g.slotted → on.assumed ≡ g.assumed union only S → on.unknown ≡ g.unknown without S
+      → change_rows (λ ws. each_row ws (hide_row S)) (rows_under on p x) ≡ present_rows
+  present_is e on slotted assumed unknown = changed_as (rows_under on p x) (λ ws i. change_hide S ws) ∙ ap (change_rows (hide_rows S)) (under_as on p x slotted assumed (unknown ∙ known_still S e))
+
+  pub absent_is : g.unknown ≡ 0 → (off : Presence) → off.slotted ≡ g.slotted → off.assumed ≡ g.assumed without S → off.unknown ≡ g.unknown without S → rows_under off p x ≡ absent_rows
+  absent_is e off slotted assumed unknown = under_as off p x slotted assumed (unknown ∙ known_still S e)
+
+-- with S present and with S absent, where no signal is unknown; else given up
+abbrev exactly : Presence → ℕ → Statement → State → CappedRows
+exactly g S p x = cond (eqb g.unknown 0) (join_rows ◌++◌ (present_rows g S p x) (absent_rows g S p x)) (given_up x p)
+
+module _ (s : Noted) {at : ℕ} (w : ReadWhole s.count s.nodes at) (e : kind_of_node (get_or s.nodes at 0) ≡ 5) (S : ℕ) (f : S ≡ operand_of (get_or s.nodes at 0)) (x : State) (g : Presence) where
+  abbrev body : Statement
+  body = part_at s.nodes (at + 1)
+
+  by_name : (b : Bool) → names S body ≡ b → rows_under g (part_at s.nodes at) x ≡ cond b (otherwise (attempted g S body x) (exactly g S body x)) (rows_under g body x)
+  unfolding capped_rows twice_rows
   by_name b h =
-      let p : Statement = part_at xs (at + 1) in
-      ap (λ (q : Statement). capped_rows M q x E U) signal_at
-      ∙ ap (λ (z : Bool). cond z (otherwise (attempted M S p x E U) (exactly M S p x E U)) (capped_rows M p x E U)) h
+      ap (λ (q : Statement). rows_under g q x) (ap (λ (q : Placed). q.statement) (is_signal w e).is ∙ ap (λ (z : ℕ). signal z body) (sym f))
+      ∙ ap (λ (z : Bool). cond z (otherwise (attempted g S body x) (exactly g S body x)) (rows_under g body x)) h
 
   -- ---- a body that does not name it
-  pub signal_unnamed : {a b : List ℕ} {base need n : ℕ} → names S (part_at xs (at + 1)) ≡ false → Made a b base need (capped_rows M (part_at xs (at + 1)) x E U) n
-      → Made a b base need (capped_rows M (part_at xs at) x E U) n
-  signal_unnamed h m = made_as m (sym (by_name false h))
+  pub unnamed_rows : names S body ≡ false → rows_under g body x ≡ rows_under g (part_at s.nodes at) x
+  unnamed_rows h = sym (by_name false h)
 
-  -- ---- the attempt
-  attempt_is : has M S ≡ true → (s U₁ : ℕ) → s ≡ slot_of M S → U₁ ≡ U union only S
-      → change_rows (change (Local S s)) (capped_rows M (part_at xs (at + 1)) x E U₁) ≡ attempted M S (part_at xs (at + 1)) x E U
-  attempt_is h s U₁ g k =
-      let p : Statement = part_at xs (at + 1) in
-      ap (λ (c : List Row → List Row). change_rows c (capped_rows M p x E U₁)) (change_local S s)
-      ∙ ap₂ (λ (i j : ℕ). change_rows (local_rows S i) (capped_rows M p x E j)) g k
-      ∙ ap (λ (z : Bool). cond z (change_rows (local_rows S (slot_of M S)) (capped_rows M p x E (U union only S))) none) (sym h)
-
-  module _ (known : has M S ≡ true) (s U₁ : ℕ) (g : s ≡ slot_of M S) (k : U₁ ≡ U union only S) {a b : List ℕ} {base need n : ℕ}
-      (m : Made a b base need (change_rows (change (Local S s)) (capped_rows M (part_at xs (at + 1)) x E U₁)) n) where
-    pub signal_tried : names S (part_at xs (at + 1)) ≡ true → (n ≡ 65 → ⊥) → Made a b base need (capped_rows M (part_at xs at) x E U) n
+  -- ---- the attempt, unless it gave up
+  module _ (h : names S body ≡ true) where
+    pub tried_rows : (a : List Packed) (need : ℕ) (r : Result ℕ Unlisted) → is_over r ≡ false → Made a need (attempted g S body x) r → Made a need (rows_under g (part_at s.nodes at) x) r
     unfolding otherwise
-    signal_tried h l =
-        let p : Statement = part_at xs (at + 1) in
-        let t = made_as m (attempt_is known s U₁ g k) in
-        record {
-          same = t.same;
-          low = t.low;
-          fits = t.fits;
-          listed = λ j. by_name true h ∙ ap (λ (z : CappedRows). otherwise z (exactly M S p x E U)) (t.listed j);
-          rising = t.rising;
-          over = λ j. absurd (l j);
-          cramped = t.cramped;
-        }
-
-    pub gave_up : n ≡ 65 → GaveUp a b base (attempted M S (part_at xs (at + 1)) x E U)
-    gave_up l = record { same = m.same; low = m.low; none_made = sym (attempt_is known s U₁ g k) ∙ m.over l }
-
-  pub not_tried : (a : List ℕ) (base : ℕ) → has M S ≡ false → GaveUp a a base (attempted M S (part_at xs (at + 1)) x E U)
-  not_tried a base h = record {
-    same = refl;
-    low = λ i j. refl;
-    none_made = ap (λ (z : Bool). cond z (change_rows (local_rows S (slot_of M S)) (capped_rows M (part_at xs (at + 1)) x E (U union only S))) none) h;
-  }
-
-  -- ---- where it gave up
-  module _ (named : names S (part_at xs (at + 1)) ≡ true) {a₀ a : List ℕ} {base : ℕ} (u : GaveUp a₀ a base (attempted M S (part_at xs (at + 1)) x E U)) where
-    exact_is : capped_rows M (part_at xs at) x E U ≡ exactly M S (part_at xs (at + 1)) x E U
-    unfolding otherwise
-    exact_is = by_name true named ∙ ap (λ (z : CappedRows). otherwise z (exactly M S (part_at xs (at + 1)) x E U)) u.none_made
-
-    exact_none : eqb U 0 ≡ false → exactly M S (part_at xs (at + 1)) x E U ≡ given_up x (part_at xs (at + 1))
-    exact_none h =
-        let p : Statement = part_at xs (at + 1) in
-        ap (λ (z : Bool). cond z (twice_rows S (capped_rows M p x (E union only S) 0) (capped_rows M p x (E without S) 0)) (given_up x p)) h
-
-    pub signal_passed : (need : ℕ) → (U ≡ 0 → ⊥) → given_up x (part_at xs (at + 1)) ≡ none → Made a₀ a base need (capped_rows M (part_at xs at) x E U) 65
-    signal_passed need h z = record {
-      same = u.same;
-      low = u.low;
-      fits = λ j. absurd (omega arith);
-      listed = λ j. absurd (omega arith);
-      rising = λ j. absurd (omega arith);
-      over = λ j. exact_is ∙ exact_none (ne_eqb U 0 h) ∙ z;
-      cramped = λ j. absurd (omega arith);
+    tried_rows a need (Ok n) k m = record {
+      small = m.small;
+      fits = m.fits;
+      listed = by_name true h ∙ ap (λ (z : CappedRows). otherwise z (exactly g S body x)) m.listed;
+      rising = m.rising;
     }
+    tried_rows a need (Err Over) k m = absurd (true≢false k)
+    tried_rows a need (Err Cramped) k m = m
+    tried_rows a need (Err Refused) k m = m
 
-    pub signal_twice : U ≡ 0 → (E₁ E₂ : ℕ) → E₁ ≡ E union only S → E₂ ≡ E without S → {b : List ℕ} {need n : ℕ}
-        → Made a b base need (join_rows ◌++◌ (change_rows (change (Hide S)) (capped_rows M (part_at xs (at + 1)) x E₁ 0)) (capped_rows M (part_at xs (at + 1)) x E₂ 0)) n
-        → Made a₀ b base need (capped_rows M (part_at xs at) x E U) n
-    unfolding twice_rows
-    signal_twice h E₁ E₂ g k {b} {need} {n} m =
-        let p : Statement = part_at xs (at + 1) in
-        let v : CappedRows = join_rows ◌++◌ (change_rows (change (Hide S)) (capped_rows M p x E₁ 0)) (capped_rows M p x E₂ 0) in
-        let is : v ≡ capped_rows M (part_at xs at) x E U =
-        ap₂ (λ (y z : ℕ). join_rows ◌++◌ (change_rows (change (Hide S)) (capped_rows M p x y 0)) (capped_rows M p x z 0)) g k
-        ∙ ap (λ (c : List Row → List Row). join_rows ◌++◌ (change_rows c (capped_rows M p x (E union only S) 0)) (capped_rows M p x (E without S) 0)) (change_hide S)
-        ∙ ap (λ (z : Bool). cond z (twice_rows S (capped_rows M p x (E union only S) 0) (capped_rows M p x (E without S) 0)) (given_up x p)) (sym (eq-eqb U 0 h))
-        ∙ sym exact_is in
-        let t = made_as m is in
-        let l = u.same in
-        record {
-          same = t.same ∙ u.same;
-          low = λ i j. t.low i j ∙ u.low i j;
-          fits = λ j. let z = t.fits j in omega arith;
-          listed = t.listed;
-          rising = t.rising;
-          over = t.over;
-          cramped = λ j. let z = t.cramped j in omega arith;
-        }
+    -- ---- where it gave up
+    module _ (gave : attempted g S body x ≡ none) where
+      exact_is : rows_under g (part_at s.nodes at) x ≡ exactly g S body x
+      unfolding otherwise
+      exact_is = by_name true h ∙ ap (λ (z : CappedRows). otherwise z (exactly g S body x)) gave
+
+      pub passed_rows : (g.unknown ≡ 0 → ⊥) → given_up x body ≡ none → rows_under g (part_at s.nodes at) x ≡ none
+      passed_rows k z = exact_is ∙ ap (λ (b : Bool). cond b (join_rows ◌++◌ (present_rows g S body x) (absent_rows g S body x)) (given_up x body)) (ne_eqb g.unknown 0 k) ∙ z
+
+      pub twice_rows_here : g.unknown ≡ 0 → join_rows ◌++◌ (present_rows g S body x) (absent_rows g S body x) ≡ rows_under g (part_at s.nodes at) x
+      twice_rows_here k = ap (λ (b : Bool). cond b (join_rows ◌++◌ (present_rows g S body x) (absent_rows g S body x)) (given_up x body)) (sym (eq-eqb g.unknown 0 k)) ∙ sym exact_is

@@ -1,15 +1,15 @@
 -- The slots of the signals that may be unknown: there are at most 12 of them.
 use mathlib.Core.Path.{◌≡◌, sym, ap, subst, ◌∙◌}
-use mathlib.Core.Bool.{Bool, true, cond}
+use mathlib.Core.Bool.{Bool, true, not, cond}
 use Prim.Native.Nat.{ℕ, zero, suc, ◌+◌, ◌-◌, ◌%◌, ◌^◌, ◌≤◌, ◌<◌}
 use native.Mathlib.Omega.{arith}
 use lib.Bits.{bit_and, and_mask, and_le_l}
 use lib.Count.{ones, ones-le}
 use lib.Pow.{pow_pos}
-use Rattle.sets.specs.Set.{has, only, ◌union◌, Within, count}
-use Rattle.sets.proofs.Booleans.{clash}
+use Rattle.sets.specs.Set.{has, only, ◌union◌, ◌without◌, Within, count}
+use Rattle.sets.proofs.Booleans.{and_cases}
 use Rattle.sets.proofs.Counts.{ones_count}
-use Rattle.sets.proofs.Members.{has_empty, only_fits}
+use Rattle.sets.proofs.Members.{has_minus, only_fits}
 use Rattle.esterel.specs.inner.Conditions.{slot_of}
 use Rattle.esterel.proofs.Unknown.{inside_too}
 use Rattle.lister.specs.inner.Slots.{Slotted}
@@ -54,7 +54,7 @@ slot_few {M} S s h = go (s.narrow S h)
         rest : S < 32 → (d : ℕ) × (d + (S + 1) ≡ 32)
         rest l = (31 - S, omega arith)
 
--- one more signal is unknown, and none
+-- one signal more is unknown, and one fewer
 pub slotted_more : {M U W : ℕ} (S : ℕ) → Slotted M U → has M S ≡ true → W ≡ U union only S → Slotted M W
 slotted_more {M} {U} S s h e = record {
   few = s.few;
@@ -62,5 +62,9 @@ slotted_more {M} {U} S s h e = record {
   within = subst (λ (z : ℕ). Within z M) (sym e) (inside_too M U S s.within h);
 }
 
-pub slotted_none : {M U : ℕ} → Slotted M U → Slotted M 0
-slotted_none s = record { few = s.few; narrow = s.narrow; within = λ x m. clash m (has_empty x) }
+pub slotted_less : {M U W : ℕ} (S : ℕ) → Slotted M U → W ≡ U without S → Slotted M W
+slotted_less {M} {U} S s e = record {
+  few = s.few;
+  narrow = s.narrow;
+  within = subst (λ (z : ℕ). Within z M) (sym e) (λ x m. s.within x (and_cases (has U x) (not (has (only S) x)) (sym (has_minus U (only S) x) ∙ m)).0);
+}

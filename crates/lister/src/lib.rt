@@ -2,7 +2,8 @@
 #![tactic(auto)]
 
 mod noted;
+mod presence;
 mod reacting;
 
-pub use noted::{COUNTS, MOST_NESTED, NO_NEST, joined, nest_of, nested_once, note_with};
-pub use reacting::{resume, slot_of, start};
+pub use noted::{COUNTS, MOST_NESTED, Note, Noted, Prepared};
+pub use presence::{Presence, slot_of};

@@ -1,9 +1,8 @@
-// What is noted of a statement, in two bytes. The pauses of a table are counted from its last node: the note says how many stand
-// from the first node of the statement on, how many of these stand behind its end, and how many of its signal statements stand
-// inside one another. `unions` has at each place the labels of the last pauses, so many as the place says, and the labels of a
-// statement are those from its first node on without those behind its end. No other file knows the layout: 6, 6 and 4 bits.
-ghost use Rattle.std.specs.Prelude.{◌≡◌, ◌<◌, max, get_or};
-ghost use Rattle.lister.specs.inner.Notes.{packed_note, from_of, behind_of, nest_of, nested_once, labels_noted};
+// A table's nodes, and what is noted of each statement. The pauses of a table are counted from its last node: a note says how many
+// stand from the first node of the statement on, and how many of these behind its end. `unions` has at each place the labels of the
+// last pauses, so many as the place says; the labels of a statement are those from its first node on without those behind its end.
+ghost use Rattle.std.specs.Prelude.{◌≡◌, ◌+◌, ◌≤◌, ◌<◌, min, max, get_or};
+ghost use Rattle.lister.specs.inner.Notes.{unnoted, labels_noted, ReadWhole, EndsFrom, SmallSignals, KnownTo, PausesFrom};
 
 use table::MOST_NODES;
 
@@ -11,54 +10,104 @@ use table::MOST_NODES;
 pub const COUNTS: usize = 64;
 
 // "over 12 signal statements inside one another"
-pub const MOST_NESTED: u16 = 12;
+pub const MOST_NESTED: u8 = 12;
 
-// The nesting that stands for all that are deeper.
-const DEEP: u16 = MOST_NESTED + 1;
-
-// The nesting that is noted of a node of a kind that there is not, and of all statements around it.
-pub const NO_NEST: u16 = 15;
-
-// The note of a statement.
-pub fn note_with(from: u16, behind: u16, nest: u16) -> u16
-    requires { (from < 64) × (behind < 64) × (nest < 16) }
-    ensures { result ≡ packed_note from behind nest }
-{
-    from + behind * 64 + nest * 4096
+// What is noted of a statement: the place behind it, how many pauses stand from its first node on and behind its end, and how many of
+// its signal statements stand inside one another, where 255 are all that are not fewer.
+#[derive(Clone, Copy)]
+pub struct Note {
+    pub end: u16,
+    pub from: u8,
+    pub behind: u8,
+    pub nest: u8,
 }
 
-// How many signal statements stand inside one another.
-pub fn nest_of(note: u16) -> u16
-    ensures { result ≡ nest_of note }
-{
-    note / 4096
-}
+impl Note {
+    // Where nothing is noted.
+    pub const NONE: Note = Note {
+        end: 0,
+        from: 0,
+        behind: 0,
+        nest: 0,
+    };
 
-// The note of a statement of two parts that stand one behind the other.
-pub fn joined(first: u16, second: u16) -> u16
-    ensures { result ≡ packed_note (from_of first) (behind_of second) (max (nest_of first) (nest_of second)) }
-{
-    let nest = esterel::larger(first / 4096, second / 4096);
-    first % 64 + second / 64 % 64 * 64 + nest * 4096
-}
+    // The note of a statement of two parts that stand one behind the other.
+    pub fn joined(self, second: Note) -> Note
+        ensures { result ≡ record { end = second.end; from = self.from; behind = second.behind; nest = max self.nest second.nest } }
+    {
+        Note {
+            end: second.end,
+            from: self.from,
+            behind: second.behind,
+            nest: self.nest.max(second.nest),
+        }
+    }
 
-// The note with one signal statement more around.
-pub fn nested_once(note: u16) -> u16
-    ensures { result ≡ packed_note (from_of note) (behind_of note) (nested_once (nest_of note)) }
-{
-    if note / 4096 < DEEP {
-        note + 4096
-    } else {
-        note
+    // The note with one signal statement more around.
+    pub fn nested_once(self) -> Note
+        ensures { result ≡ record self { nest = min 255 (self.nest + 1) } }
+    {
+        Note {
+            nest: self.nest.saturating_add(1),
+            ..self
+        }
     }
 }
 
-// The labels of the pauses of the statement at a place.
-pub fn pauses_of(notes: &[u16; MOST_NODES], unions: &[u64; COUNTS], at: usize) -> u64
-    requires { at < 1024 }
-    ensures { result ≡ labels_noted unions.now (get_or notes.now at 0) }
-{
-    let note = notes[at];
-    let from = unions[(note % 64) as usize];
-    from ^ (from & unions[(note / 64 % 64) as usize])
+// Decoded nodes, of which the first `count` are those of a table, and the notes of the statements that begin at them. The nodes are
+// an array of their own, since loading a table fills a slice of nodes.
+#[derive(Drop)]
+pub struct Noted {
+    pub nodes: [u16; MOST_NODES],
+    pub notes: [Note; MOST_NODES],
+    pub count: usize,
+    ghost few: { count ≤ 1024 },
+    ghost ends: { EndsFrom 0 count nodes notes },
+    ghost narrow: { SmallSignals count nodes },
+    ghost known: { KnownTo count nodes },
+}
+
+impl Noted {
+    fn new() -> Noted
+        ensures { result.count ≡ 0 }
+    {
+        Noted {
+            nodes: [0; MOST_NODES],
+            notes: [Note::NONE; MOST_NODES],
+            count: 0,
+        }
+    }
+}
+
+// The same with the labels of the last pauses.
+#[derive(Drop)]
+pub struct Prepared {
+    pub noted: Noted,
+    pub unions: [u64; COUNTS],
+    ghost labels: { PausesFrom 0 noted.count noted.nodes noted.notes unions },
+}
+
+impl Prepared {
+    // Room for what is prepared of a table.
+    pub fn new() -> Prepared
+        ensures { result.noted.count ≡ 0 }
+    {
+        let noted = Noted::new();
+        Prepared {
+            noted,
+            unions: [0; COUNTS],
+        }
+    }
+
+    // The labels of the pauses of the statement at a place.
+    pub(crate) fn pauses_of(&self, at: usize) -> u64
+        requires { ReadWhole self.now.noted.count self.now.noted.nodes at }
+        ensures { result ≡ labels_noted self.now.unions (get_or self.now.noted.notes at unnoted) }
+    {
+        let note = self.noted.notes[at];
+        sets::minus(
+            self.unions[note.from as usize],
+            self.unions[note.behind as usize],
+        )
+    }
 }

@@ -1,487 +1,331 @@
-// The rows of the statement at a place of decoded nodes, left in order in a lent area from `base` on. A number comes back: so
-// many rows, or area's OVER, some list needed has over 64, CRAMPED, the area is too small, or REFUSED, some node is of a kind
-// that there is not. `assumed` says which signals are present, but for those of `unknown`, on which rows have conditions; these are
-// of `slotted`, whose members have the slots of conditions. With no signal unknown the rows are reactions, and OVER is refusal
-// 15; else OVER is giving up, and says only that the signal statement around is listed in another way. The nodes and what is noted
-// of them are arrays, since a slice goes through memory at every call; only the first nodes are those of the table.
-ghost use Rattle.std.specs.Prelude.{◌≡◌, false, [], ◌∷◌, ◌++◌, ◌+◌, ◌*◌, ◌^◌, ◌≤◌, ◌<◌, length};
+// The rows of the statement at a place of decoded nodes, left in order in front of a lent area, and how many they are; or why there is
+// no list: some list needed has over 64 rows, the area is too small, or some node is of a kind that there is not. With no signal
+// unknown the rows are reactions, and a list of over 64 is refusal 15; else it is giving up, and says only that the signal
+// statement around is listed in another way.
+ghost use Rattle.std.specs.Prelude.{◌≡◌, ◌+◌, ◌<◌, ◌≤◌, length, IfOk};
+ghost use Rattle.std.specs.List.{list_any};
 ghost use Rattle.std.proofs.Math.Option.{some};
-ghost use Rattle.esterel.specs.Statement.{pause, emit, exit};
+ghost use Rattle.sets.specs.Set.{only};
+ghost use Rattle.esterel.specs.Statement.{emit};
+ghost use Rattle.esterel.specs.Codes.{code_of};
 ghost use Rattle.esterel.specs.Reactions.{start as started, resumed};
-ghost use Rattle.esterel.specs.Listing.{reaction, some_ends};
+ghost use Rattle.esterel.specs.Listing.{reaction};
 ghost use Rattle.esterel.specs.Trimming.{names as names_in};
-ghost use Rattle.esterel.specs.inner.Conditions.{slot_of};
-ghost use Rattle.esterel.specs.inner.Rows.{row_when, reactions};
-ghost use Rattle.esterel.specs.inner.CappedRows.{capped_rows};
-ghost use Rattle.area.specs.declared.Change.TheVariants.{Hide, Local, Given, Going, Caught};
-ghost use Rattle.area.specs.declared.Pairing.TheVariants.{Parallel};
-ghost use Rattle.area.specs.inner.Layout.{condition_in};
-ghost use Rattle.area.specs.inner.Rules.{product};
-ghost use Rattle.area.specs.inner.Area.{rows, Made, Altered, Beside};
-ghost use Rattle.lister.specs.inner.Notes.{part_at, names_at, Startable, Resumable};
-ghost use Rattle.lister.specs.inner.Slots.{Slotted};
-ghost use Rattle.lister.specs.inner.Joins.{MadeRows, Above, MadeOne, Standing, FollowedBy, FollowedAgain};
+ghost use Rattle.esterel.specs.inner.Conditions.{always};
+ghost use Rattle.esterel.specs.inner.Rows.{row_when};
+ghost use Rattle.esterel.specs.inner.CappedRows.{then_rows};
+ghost use Rattle.rows.specs.inner.Layout.{unpacked};
+ghost use Rattle.rows.specs.inner.Area.{rows, Made};
+ghost use Rattle.lister.specs.inner.Notes.{part_at, names_at, ReadWhole};
+ghost use Rattle.lister.specs.inner.Joins.{room_for, rows_under, MadeRows, Altered, is_over, Front, following};
 
-use crate::noted::{COUNTS, pauses_of};
-use area::{Change, Pairing};
+use crate::{Noted, Prepared, Presence, slot_of};
 use esterel::{Code, Label, Level};
-use table::{MOST_NODES, kind_of, operand_of};
+use rows::{Caught, Change, Given, Going, Hide, Local, Parallel, Row, Sequence, Unlisted};
+use table::{kind_of, operand_of};
 
 // Whether the node is an emit or a present of the signal.
 fn names(node: u16, signal: u8) -> bool
     ensures { result ≡ names_at signal node }
 {
-    if operand_of(node) != signal {
-        return false;
-    }
     let kind = kind_of(node);
-    if kind == table::EMIT {
-        return true;
-    }
-    kind == table::PRESENT
+    operand_of(node) == signal && (kind == table::EMIT || kind == table::PRESENT)
 }
 
-// Whether an emit or a present of the statement at a place names the signal.
-fn named(nodes: &[u16; MOST_NODES], ends: &[u16; MOST_NODES], at: usize, signal: u8) -> bool
-    requires { Startable nodes.now ends.now at }
-    ensures { result ≡ names_in signal (part_at nodes.now at) }
+// Whether one of the nodes does.
+fn some_names(nodes: &[u16], signal: u8) -> bool
+    ensures { result ≡ list_any (names_at signal) nodes.now }
 {
-    let end = ends[at] as usize;
-    let mut i = at;
-    while i < end {
-        if names(nodes[i], signal) {
-            return true;
-        }
-        i += 1;
-    }
-    false
+    nodes.iter().any(|node| names(*node, signal))
 }
 
-// The slot of a signal: how many members of the set are below it.
-pub fn slot_of(slotted: u64, signal: u8) -> u8
-    requires { signal < 64 }
-    ensures { result ≡ slot_of slotted signal }
+// The row of a started pause or gotopause, and of a started exit.
+fn paused(label: Label) -> Row
+    requires { label.0 < 64 }
+    ensures { unpacked result ≡ row_when always (reaction 0 1 (only label.0)) }
 {
-    let own = sets::singleton(signal);
-    let below = own - 1;
-    u64::count_ones(slotted & below) as u8
+    Row::new(0, Code::PAUSED, 0, sets::singleton(label.0))
 }
 
-// The list of one row, where there is room for it.
-fn alone(area: &mut [u64], base: usize, o: u64, code: Code, condition: u64, l: u64) -> usize
-    requires { (base ≤ length area.old) × (o < 2 ^ 32) × (code.0 < 256) × (condition < 2 ^ 24) }
-    ensures { Made area.old area.new base (base + 2) (some (row_when (condition_in condition) (reaction o code.0 l) ∷ [])) result }
+fn left(level: Level) -> Row
+    requires { level.0 < 64 }
+    ensures { unpacked result ≡ row_when always (reaction 0 (code_of level.0) 0) }
 {
-    if area.len() - base < 2 {
-        return area::CRAMPED;
-    }
-    area::one(area, base, area::word_of(o, code, condition), l)
+    Row::new(0, Code::from(level), 0, 0)
 }
 
 // A started emit reacts only where its signal is present: where it is assumed, or under that condition.
-fn emitted(
-    area: &mut [u64],
-    base: usize,
-    assumed: u64,
-    unknown: u64,
-    slotted: u64,
-    signal: u8,
-) -> usize
-    requires { (base ≤ length area.old) × (signal < 32) × Slotted slotted unknown }
-    ensures { Made area.old area.new base (base + 2) (capped_rows slotted (emit signal) started assumed unknown) result }
+fn emitted(area: &mut [Row], signals: &Presence, signal: u8) -> Result<usize, Unlisted>
+    requires { (0 < length area.old) × (signal < 32) }
+    ensures { Made area.new 0 (rows_under signals.now (emit signal) started) result }
 {
     let own = sets::singleton(signal);
-    if sets::contains(unknown, signal) {
-        let slot = slot_of(slotted, signal);
-        return alone(
-            area,
-            base,
-            own,
-            Code(esterel::ENDED),
-            area::on_slot(slot),
-            0,
-        );
+    if sets::contains(signals.unknown, signal) {
+        let slot = slot_of(signals.slotted, signal);
+        let row = Row::new(own, Code::ENDED, rows::on_slot(slot), 0);
+        return Ok(rows::one(area, row));
     }
-    if !sets::contains(assumed, signal) {
-        return 0;
+    if !sets::contains(signals.assumed, signal) {
+        return Ok(0);
     }
-    alone(area, base, own, Code(esterel::ENDED), 0, 0)
+    Ok(rows::one(area, Row::new(own, Code::ENDED, 0, 0)))
 }
 
-// A started pause or gotopause.
-fn paused(area: &mut [u64], base: usize, label: Label) -> usize
-    requires { (base ≤ length area.old) × (label.0 < 64) }
-    ensures { Made area.old area.new base (base + 2) (capped_rows 0 (pause label.0) started 0 0) result }
+// The list that stands in front, if there is one, changed row by row.
+fn altered<C: Change>(
+    listed: Result<usize, Unlisted>,
+    area: &mut [Row],
+    change: &C,
+) -> Result<usize, Unlisted>
+    requires { IfOk listed (λ n. n ≤ length area.old) }
+    ensures { Altered (C.changed change.now) listed area.old area.new result }
 {
-    let own = sets::singleton(label.0);
-    alone(area, base, 0, Code(esterel::PAUSED), 0, own)
+    let n = listed?;
+    rows::alter(&mut area[..n], change)
 }
 
-// A started exit.
-fn left(area: &mut [u64], base: usize, level: Level) -> usize
-    requires { (base ≤ length area.old) × (level.0 < 64) }
-    ensures { Made area.old area.new base (base + 2) (capped_rows 0 (exit level.0) started 0 0) result }
+// Whether a list would have over 64 rows.
+fn gave_up(listed: Result<usize, Unlisted>) -> bool
+    ensures { result ≡ is_over listed }
 {
-    alone(area, base, 0, esterel::code_of(level), 0, 0)
+    listed == Err(Unlisted::Over)
 }
 
-// Where the next list stands: above the n rows at base; at the end of the area, where no list is begun, if n says that
-// there is no list, or if there is no room above it.
-fn above(area: &[u64], base: usize, n: usize) -> usize
-    requires { (base ≤ length area.now) × (n ≤ 64 → base + 2 * n ≤ length area.now) }
-    ensures { Above area.now base n result }
-{
-    if area::room(area, base, n) {
-        return base + 2 * n;
+impl Noted {
+    // Whether an emit or a present of the statement at a place names the signal.
+    fn named(&self, at: usize, signal: u8) -> bool
+        requires { ReadWhole self.now.count self.now.nodes at }
+        ensures { result ≡ names_in signal (part_at self.now.nodes at) }
+    {
+        let end = self.notes[at].end as usize;
+        some_names(&self.nodes[at..end], signal)
     }
-    area.len()
-}
 
-// The n1 rows at base and the n2 above them as one list; n1 itself where it says that there is none.
-fn either(area: &mut [u64], base: usize, n1: usize, n2: usize) -> usize
-    requires { n1 ≤ 64 → Beside area.old base n1 n2 }
-    ensures { MadeOne ◌++◌ area.old area.new base n1 n2 result }
-{
-    if area::MOST < n1 {
-        return n1;
-    }
-    area::merge(area, base, n1, n2)
-}
-
-// The same of their product in parallel.
-fn together(area: &mut [u64], base: usize, n1: usize, n2: usize) -> usize
-    requires { n1 ≤ 64 → Beside area.old base n1 n2 }
-    ensures { MadeOne (product Parallel) area.old area.new base n1 n2 result }
-{
-    if area::MOST < n1 {
-        return n1;
-    }
-    area::product(area, base, n1, n2, Pairing::Parallel)
-}
-
-// Whether there is a list of n rows at base of which some ends.
-fn some_ends(area: &[u64], base: usize, n: usize) -> bool
-    requires { n ≤ 64 → base + 2 * n ≤ length area.now }
-    ensures { (n ≤ 64 → result ≡ some_ends (reactions (rows area.now base n))) × (64 < n → result ≡ false) }
-{
-    if area::MOST < n {
-        return false;
-    }
-    area::some_ends(area, base, n)
-}
-
-// The n rows at base changed, each change by a function of its own: what is handed to `alter` then takes no room in the frames of
-// the recursions.
-fn hide_signal(area: &mut [u64], base: usize, n: usize, signal: u8) -> usize
-    requires { n ≤ 64 → base + 2 * n ≤ length area.old }
-    ensures { Altered (Hide signal) area.old area.new base n result }
-{
-    area::alter(area, base, n, Change::Hide(signal))
-}
-
-fn hide_unknown(area: &mut [u64], base: usize, n: usize, signal: u8, slot: u8) -> usize
-    requires { n ≤ 64 → base + 2 * n ≤ length area.old }
-    ensures { Altered (Local signal slot) area.old area.new base n result }
-{
-    area::alter(area, base, n, Change::Local(signal, slot))
-}
-
-fn add_condition(area: &mut [u64], base: usize, n: usize, condition: u64) -> usize
-    requires { n ≤ 64 → base + 2 * n ≤ length area.old }
-    ensures { Altered (Given condition) area.old area.new base n result }
-{
-    area::alter(area, base, n, Change::Given(condition))
-}
-
-fn keep_going(area: &mut [u64], base: usize, n: usize) -> usize
-    requires { n ≤ 64 → base + 2 * n ≤ length area.old }
-    ensures { Altered Going area.old area.new base n result }
-{
-    area::alter(area, base, n, Change::Going)
-}
-
-fn catch_exits(area: &mut [u64], base: usize, n: usize) -> usize
-    requires { n ≤ 64 → base + 2 * n ≤ length area.old }
-    ensures { Altered Caught area.old area.new base n result }
-{
-    area::alter(area, base, n, Change::Caught)
-}
-
-// The rows of a started statement.
-pub fn start(
-    nodes: &[u16; MOST_NODES],
-    ends: &[u16; MOST_NODES],
-    at: usize,
-    assumed: u64,
-    unknown: u64,
-    slotted: u64,
-    area: &mut [u64],
-    base: usize,
-) -> usize
-    requires { (base ≤ length area.old) × Startable nodes.now ends.now at × Slotted slotted unknown }
-    ensures { MadeRows slotted (part_at nodes.now at) started assumed unknown area.old area.new base result }
-{
-    if base == area.len() {
-        return area::CRAMPED;
-    }
-    let node = nodes[at];
-    let operand = operand_of(node);
-    let first = at + 1;
-    match kind_of(node) {
-        table::NOTHING => alone(area, base, 0, Code(esterel::ENDED), 0, 0),
-        table::PAUSE => paused(area, base, Label(operand)),
-        table::GOTOPAUSE => paused(area, base, Label(operand)),
-        table::EMIT => emitted(area, base, assumed, unknown, slotted, operand),
-        table::EXIT => left(area, base, Level(operand)),
-        table::SIGNAL => {
-            if !named(nodes, ends, first, operand) {
-                return start(nodes, ends, first, assumed, unknown, slotted, area, base);
-            }
-            // Once, with the signal unknown; what gives up is given on, or met by the lists with it present and absent.
-            if sets::contains(slotted, operand) {
-                let more = sets::with(unknown, operand);
-                let n = start(nodes, ends, first, assumed, more, slotted, area, base);
-                let slot = slot_of(slotted, operand);
-                let m = hide_unknown(area, base, n, operand, slot);
-                if m != area::OVER {
-                    return m;
+    // The rows of a started statement.
+    pub fn start(&self, at: usize, signals: &Presence, area: &mut [Row]) -> Result<usize, Unlisted>
+        requires { ReadWhole self.now.count self.now.nodes at }
+        ensures { MadeRows signals.now (part_at self.now.nodes at) started area.new result }
+    {
+        if area.is_empty() {
+            return Err(Unlisted::Cramped);
+        }
+        let node = self.nodes[at];
+        let operand = operand_of(node);
+        let first = at + 1;
+        match kind_of(node) {
+            table::NOTHING => Ok(rows::one(area, Row::NOTHING)),
+            table::PAUSE => Ok(rows::one(area, paused(Label(operand)))),
+            table::GOTOPAUSE => Ok(rows::one(area, paused(Label(operand)))),
+            table::EMIT => emitted(area, signals, operand),
+            table::EXIT => Ok(rows::one(area, left(Level(operand)))),
+            table::SIGNAL => {
+                if !self.named(first, operand) {
+                    return self.start(first, signals, area);
                 }
-            }
-            if unknown != 0 {
-                return area::OVER;
-            }
-            let with = sets::with(assumed, operand);
-            let n = start(nodes, ends, first, with, 0, slotted, area, base);
-            let n1 = hide_signal(area, base, n, operand);
-            let top = above(area, base, n1);
-            let without = sets::without(assumed, operand);
-            let n2 = start(nodes, ends, first, without, 0, slotted, area, top);
-            either(area, base, n1, n2)
-        }
-        table::PRESENT => {
-            let second = ends[first] as usize;
-            if sets::contains(unknown, operand) {
-                let slot = slot_of(slotted, operand);
-                let n = start(nodes, ends, first, assumed, unknown, slotted, area, base);
-                let n1 = add_condition(area, base, n, area::on_slot(slot));
-                let top = above(area, base, n1);
-                let m = start(nodes, ends, second, assumed, unknown, slotted, area, top);
-                let n2 = add_condition(area, top, m, area::off_slot(slot));
-                return either(area, base, n1, n2);
-            }
-            if sets::contains(assumed, operand) {
-                return start(nodes, ends, first, assumed, unknown, slotted, area, base);
-            }
-            start(nodes, ends, second, assumed, unknown, slotted, area, base)
-        }
-        table::SEQUENCE => {
-            let n1 = start(nodes, ends, first, assumed, unknown, slotted, area, base);
-            if !some_ends(area, base, n1) {
-                return n1;
-            }
-            let second = ends[first] as usize;
-            let top = base + 2 * n1;
-            let n2 = start(nodes, ends, second, assumed, unknown, slotted, area, top);
-            area::product(area, base, n1, n2, Pairing::Sequence)
-        }
-        table::PARALLEL => {
-            let second = ends[first] as usize;
-            let n1 = start(nodes, ends, first, assumed, unknown, slotted, area, base);
-            let top = above(area, base, n1);
-            let n2 = start(nodes, ends, second, assumed, unknown, slotted, area, top);
-            together(area, base, n1, n2)
-        }
-        table::LOOP => {
-            let n = start(nodes, ends, first, assumed, unknown, slotted, area, base);
-            keep_going(area, base, n)
-        }
-        table::TRY => {
-            let n = start(nodes, ends, first, assumed, unknown, slotted, area, base);
-            catch_exits(area, base, n)
-        }
-        11..=15 => area::REFUSED,
-        _ => area::REFUSED,
-    }
-}
-
-// What the n rows at base become where the started statement at a place follows those that end.
-fn follow(
-    nodes: &[u16; MOST_NODES],
-    ends: &[u16; MOST_NODES],
-    at: usize,
-    assumed: u64,
-    unknown: u64,
-    slotted: u64,
-    area: &mut [u64],
-    base: usize,
-    n: usize,
-) -> usize
-    requires { Standing area.old base n × Startable nodes.now ends.now at × Slotted slotted unknown }
-    ensures { FollowedBy slotted (part_at nodes.now at) assumed unknown area.old area.new base n result }
-{
-    if !some_ends(area, base, n) {
-        return n;
-    }
-    let n2 = start(
-        nodes,
-        ends,
-        at,
-        assumed,
-        unknown,
-        slotted,
-        area,
-        base + 2 * n,
-    );
-    area::product(area, base, n, n2, Pairing::Sequence)
-}
-
-// The same where it is the body of a loop: what of it ends in the same instant is left out.
-fn follow_again(
-    nodes: &[u16; MOST_NODES],
-    ends: &[u16; MOST_NODES],
-    at: usize,
-    assumed: u64,
-    unknown: u64,
-    slotted: u64,
-    area: &mut [u64],
-    base: usize,
-    n: usize,
-) -> usize
-    requires { Standing area.old base n × Startable nodes.now ends.now at × Slotted slotted unknown }
-    ensures { FollowedAgain slotted (part_at nodes.now at) assumed unknown area.old area.new base n result }
-{
-    if !some_ends(area, base, n) {
-        return n;
-    }
-    let top = base + 2 * n;
-    let started = start(nodes, ends, at, assumed, unknown, slotted, area, top);
-    let n2 = keep_going(area, top, started);
-    area::product(area, base, n, n2, Pairing::Sequence)
-}
-
-// The rows of a resumed statement, which has none where the state has no label of a pause in it.
-pub fn resume(
-    nodes: &[u16; MOST_NODES],
-    ends: &[u16; MOST_NODES],
-    notes: &[u16; MOST_NODES],
-    unions: &[u64; COUNTS],
-    at: usize,
-    assumed: u64,
-    unknown: u64,
-    slotted: u64,
-    labels: u64,
-    area: &mut [u64],
-    base: usize,
-) -> usize
-    requires { (base ≤ length area.old) × Resumable nodes.now ends.now notes.now unions.now at × Slotted slotted unknown }
-    ensures { MadeRows slotted (part_at nodes.now at) (resumed labels) assumed unknown area.old area.new base result }
-{
-    if base == area.len() {
-        return area::CRAMPED;
-    }
-    if labels & pauses_of(notes, unions, at) == 0 {
-        return 0;
-    }
-    let node = nodes[at];
-    let operand = operand_of(node);
-    let first = at + 1;
-    match kind_of(node) {
-        table::NOTHING => 0,
-        table::PAUSE => alone(area, base, 0, Code(esterel::ENDED), 0, 0),
-        table::GOTOPAUSE => 0,
-        table::EMIT => 0,
-        table::EXIT => 0,
-        table::SIGNAL => {
-            if !named(nodes, ends, first, operand) {
-                return resume(
-                    nodes, ends, notes, unions, first, assumed, unknown, slotted, labels, area,
-                    base,
-                );
-            }
-            if sets::contains(slotted, operand) {
-                let more = sets::with(unknown, operand);
-                let n = resume(
-                    nodes, ends, notes, unions, first, assumed, more, slotted, labels, area, base,
-                );
-                let slot = slot_of(slotted, operand);
-                let m = hide_unknown(area, base, n, operand, slot);
-                if m != area::OVER {
-                    return m;
+                // Once, with the signal unknown; what gives up is given on, or met by the lists with it present and absent.
+                if sets::contains(signals.slotted, operand) {
+                    let more = signals.with_unknown(operand);
+                    let slot = slot_of(signals.slotted, operand);
+                    let local = Local {
+                        signal: operand,
+                        slot,
+                    };
+                    let once = self.start(first, &more, area);
+                    let tried = altered(once, area, &local);
+                    if !gave_up(tried) {
+                        return tried;
+                    }
                 }
+                if signals.unknown != 0 {
+                    return Err(Unlisted::Over);
+                }
+                let with = signals.with_present(operand);
+                let present = self.start(first, &with, area);
+                let n = altered(present, area, &Hide { signal: operand })?;
+                let without = signals.with_absent(operand);
+                let m = self.start(first, &without, &mut area[n..])?;
+                rows::merge(area, n, m)
             }
-            if unknown != 0 {
-                return area::OVER;
+            table::PRESENT => {
+                let second = self.notes[first].end as usize;
+                if sets::contains(signals.unknown, operand) {
+                    let slot = slot_of(signals.slotted, operand);
+                    let on = Given {
+                        condition: rows::on_slot(slot),
+                    };
+                    let off = Given {
+                        condition: rows::off_slot(slot),
+                    };
+                    let present = self.start(first, signals, area);
+                    let n = altered(present, area, &on)?;
+                    let above = &mut area[n..];
+                    let absent = self.start(second, signals, above);
+                    let m = altered(absent, above, &off)?;
+                    return rows::merge(area, n, m);
+                }
+                if sets::contains(signals.assumed, operand) {
+                    return self.start(first, signals, area);
+                }
+                self.start(second, signals, area)
             }
-            let with = sets::with(assumed, operand);
-            let n = resume(
-                nodes, ends, notes, unions, first, with, 0, slotted, labels, area, base,
-            );
-            let n1 = hide_signal(area, base, n, operand);
-            let top = above(area, base, n1);
-            let without = sets::without(assumed, operand);
-            let n2 = resume(
-                nodes, ends, notes, unions, first, without, 0, slotted, labels, area, top,
-            );
-            either(area, base, n1, n2)
-        }
-        table::PRESENT => {
-            let second = ends[first] as usize;
-            let n1 = resume(
-                nodes, ends, notes, unions, first, assumed, unknown, slotted, labels, area, base,
-            );
-            let top = above(area, base, n1);
-            let n2 = resume(
-                nodes, ends, notes, unions, second, assumed, unknown, slotted, labels, area, top,
-            );
-            either(area, base, n1, n2)
-        }
-        table::SEQUENCE => {
-            let second = ends[first] as usize;
-            let n = resume(
-                nodes, ends, notes, unions, first, assumed, unknown, slotted, labels, area, base,
-            );
-            let n1 = follow(
-                nodes, ends, second, assumed, unknown, slotted, area, base, n,
-            );
-            let top = above(area, base, n1);
-            let n2 = resume(
-                nodes, ends, notes, unions, second, assumed, unknown, slotted, labels, area, top,
-            );
-            either(area, base, n1, n2)
-        }
-        table::PARALLEL => {
-            let second = ends[first] as usize;
-            if labels & pauses_of(notes, unions, first) == 0 {
-                return resume(
-                    nodes, ends, notes, unions, second, assumed, unknown, slotted, labels, area,
-                    base,
-                );
+            table::SEQUENCE => {
+                let n = self.start(first, signals, area)?;
+                if !rows::some_ends(&area[..n]) {
+                    return Ok(n);
+                }
+                let second = self.notes[first].end as usize;
+                let m = self.start(second, signals, &mut area[n..])?;
+                rows::product::<Sequence>(area, n, m)
             }
-            let n1 = resume(
-                nodes, ends, notes, unions, first, assumed, unknown, slotted, labels, area, base,
-            );
-            if labels & pauses_of(notes, unions, second) == 0 {
-                return n1;
+            table::PARALLEL => {
+                let second = self.notes[first].end as usize;
+                let n = self.start(first, signals, area)?;
+                let m = self.start(second, signals, &mut area[n..])?;
+                rows::product::<Parallel>(area, n, m)
             }
-            let top = above(area, base, n1);
-            let n2 = resume(
-                nodes, ends, notes, unions, second, assumed, unknown, slotted, labels, area, top,
-            );
-            together(area, base, n1, n2)
+            table::LOOP => {
+                let body = self.start(first, signals, area);
+                altered(body, area, &Going)
+            }
+            table::TRY => {
+                let body = self.start(first, signals, area);
+                altered(body, area, &Caught)
+            }
+            11..=15 => Err(Unlisted::Refused),
+            _ => Err(Unlisted::Refused),
         }
-        table::LOOP => {
-            let n = resume(
-                nodes, ends, notes, unions, first, assumed, unknown, slotted, labels, area, base,
-            );
-            follow_again(nodes, ends, first, assumed, unknown, slotted, area, base, n)
+    }
+
+    // The rows of a started statement that follows; where it is the body of a loop, which starts again, without what ends in the same
+    // instant.
+    fn following(
+        &self,
+        at: usize,
+        again: bool,
+        signals: &Presence,
+        area: &mut [Row],
+    ) -> Result<usize, Unlisted>
+        requires { ReadWhole self.now.count self.now.nodes at }
+        ensures { Made area.new (room_for (part_at self.now.nodes at)) (following signals.now again (part_at self.now.nodes at)) result }
+    {
+        let started = self.start(at, signals, area);
+        if again {
+            return altered(started, area, &Going);
         }
-        table::TRY => {
-            let n = resume(
-                nodes, ends, notes, unions, first, assumed, unknown, slotted, labels, area, base,
-            );
-            catch_exits(area, base, n)
+        started
+    }
+
+    // What the n rows in front become where those that end are followed.
+    fn follow(
+        &self,
+        at: usize,
+        again: bool,
+        signals: &Presence,
+        area: &mut [Row],
+        n: usize,
+    ) -> Result<usize, Unlisted>
+        requires whole { ReadWhole self.now.count self.now.nodes at }
+        requires standing { Front area.old n }
+        ensures { Made area.new (64 + room_for (part_at self.now.nodes at)) (then_rows (some (rows area.old n)) (following signals.now again (part_at self.now.nodes at))) result }
+    {
+        if !rows::some_ends(&area[..n]) {
+            return Ok(n);
         }
-        11..=15 => area::REFUSED,
-        _ => area::REFUSED,
+        let m = self.following(at, again, signals, &mut area[n..])?;
+        rows::product::<Sequence>(area, n, m)
+    }
+}
+
+impl Prepared {
+    // The rows of a resumed statement, which has none where the state has no label of a pause in it.
+    pub fn resume(
+        &self,
+        at: usize,
+        signals: &Presence,
+        labels: u64,
+        area: &mut [Row],
+    ) -> Result<usize, Unlisted>
+        requires { ReadWhole self.now.noted.count self.now.noted.nodes at }
+        ensures { MadeRows signals.now (part_at self.now.noted.nodes at) (resumed labels) area.new result }
+    {
+        if area.is_empty() {
+            return Err(Unlisted::Cramped);
+        }
+        if labels & self.pauses_of(at) == 0 {
+            return Ok(0);
+        }
+        let noted = &self.noted;
+        let node = noted.nodes[at];
+        let operand = operand_of(node);
+        let first = at + 1;
+        match kind_of(node) {
+            table::NOTHING => Ok(0),
+            table::PAUSE => Ok(rows::one(area, Row::NOTHING)),
+            table::GOTOPAUSE => Ok(0),
+            table::EMIT => Ok(0),
+            table::EXIT => Ok(0),
+            table::SIGNAL => {
+                if !noted.named(first, operand) {
+                    return self.resume(first, signals, labels, area);
+                }
+                if sets::contains(signals.slotted, operand) {
+                    let more = signals.with_unknown(operand);
+                    let slot = slot_of(signals.slotted, operand);
+                    let local = Local {
+                        signal: operand,
+                        slot,
+                    };
+                    let once = self.resume(first, &more, labels, area);
+                    let tried = altered(once, area, &local);
+                    if !gave_up(tried) {
+                        return tried;
+                    }
+                }
+                if signals.unknown != 0 {
+                    return Err(Unlisted::Over);
+                }
+                let with = signals.with_present(operand);
+                let present = self.resume(first, &with, labels, area);
+                let n = altered(present, area, &Hide { signal: operand })?;
+                let without = signals.with_absent(operand);
+                let m = self.resume(first, &without, labels, &mut area[n..])?;
+                rows::merge(area, n, m)
+            }
+            table::PRESENT => {
+                let second = noted.notes[first].end as usize;
+                let n = self.resume(first, signals, labels, area)?;
+                let m = self.resume(second, signals, labels, &mut area[n..])?;
+                rows::merge(area, n, m)
+            }
+            table::SEQUENCE => {
+                let second = noted.notes[first].end as usize;
+                let ended = self.resume(first, signals, labels, area)?;
+                let n = noted.follow(second, false, signals, area, ended)?;
+                let m = self.resume(second, signals, labels, &mut area[n..])?;
+                rows::merge(area, n, m)
+            }
+            table::PARALLEL => {
+                let second = noted.notes[first].end as usize;
+                if labels & self.pauses_of(first) == 0 {
+                    return self.resume(second, signals, labels, area);
+                }
+                let n = self.resume(first, signals, labels, area)?;
+                if labels & self.pauses_of(second) == 0 {
+                    return Ok(n);
+                }
+                let m = self.resume(second, signals, labels, &mut area[n..])?;
+                rows::product::<Parallel>(area, n, m)
+            }
+            table::LOOP => {
+                let n = self.resume(first, signals, labels, area)?;
+                noted.follow(first, true, signals, area, n)
+            }
+            table::TRY => {
+                let body = self.resume(first, signals, labels, area);
+                altered(body, area, &Caught)
+            }
+            11..=15 => Err(Unlisted::Refused),
+            _ => Err(Unlisted::Refused),
+        }
     }
 }

@@ -16,15 +16,18 @@ use Rattle.esterel.specs.Stepping.{Answer, emitted_free, stepping, many_free, cr
 use Rattle.esterel.specs.inner.Stepping.{crowded, answer, Looked}
 use Rattle.esterel.proofs.Bounds.{valid_free}
 use Rattle.esterel.proofs.Looking.{looked_whole}
-use Rattle.table.specs.Outcomes.{refusal}
+use Rattle.table.specs.declared.Refusal.{Refusal}
+use Rattle.table.specs.declared.Refusal.TheVariants.{Free}
+use Rattle.table.specs.Outcomes.{refusal, number_of_refusal}
 use Rattle.table.specs.Reading.{Table, table_of}
 use Rattle.table.specs.inner.Places.{statement_of}
 use Rattle.list.specs.Answers.{state_of}
 use Rattle.list.specs.inner.Preparing.{Unready, malformed, nested, Ready}
 use Rattle.step.specs.declared.Stepped.{Stepped}
-use Rattle.step.specs.declared.Stepped.TheVariants.{Refused}
+use Rattle.std.specs.Prelude.{Result, Err}
 use Rattle.step.specs.Answers.{stepping_outcome, step_for, step_in, step_of, stepped_outcome}
-use Rattle.step.specs.inner.Looking.{found, Unknowns, Looks}
+use Rattle.step.specs.inner.Looking.{found, Looks}
+use Rattle.step.specs.inner.Unknowns.{Unknowns}
 use Rattle.step.proofs.Outcomes.{for_nested, for_many, for_few, outcome_answered}
 
 -- ---- a table that is refused
@@ -33,17 +36,17 @@ unfolding step_in
 unready malformed I mark X = refl
 unready (nested {n} {p} h) I mark X = sym (for_nested p (state_of mark X) I h)
 
-pub unready_step : (t : List ℕ) (I mark X : ℕ) {w : ℕ} → Unready (table_of t) w → stepped_outcome (Refused w) ≡ step_of t I mark X
-unfolding stepped_outcome step_of
-unready_step t I mark X u = unready u I mark X
+pub unready_step : (t : List ℕ) (I mark X : ℕ) (e : Refusal) → Unready (table_of t) (number_of_refusal e) → stepped_outcome (Err e) ≡ step_of t I mark X
+unfolding step_of
+unready_step t I mark X e u = unready u I mark X
 
 -- ---- one that is not
 outcome_found : (b : Bool) (a : Answer) → stepped_outcome (found (cond b crowded (answer a))) ≡ cond b (refusal 15) (stepping_outcome a)
-unfolding found stepped_outcome
+unfolding found
 outcome_found true a = refl
 outcome_found false a = outcome_answered a
 
-module _ (t : List ℕ) (I mark X : ℕ) {xs ends notes unions : List ℕ} (r : Ready (table_of t) xs ends notes unions) where
+module _ (t : List ℕ) (I mark X : ℕ) {xs : List ℕ} (r : Ready (table_of t) xs) where
   abbrev program : Statement
   program = statement_of xs
 
@@ -61,8 +64,8 @@ module _ (t : List ℕ) (I mark X : ℕ) {xs ends notes unions : List ℕ} (r : 
     count_is : k ≡ count 32 (emitted_free program)
     count_is = c ∙ ap (count 64) e ∙ count_narrow (emitted_free program) 32 32 narrow
 
-    pub many_step : 10 < k → stepped_outcome (Refused 17) ≡ step_of t I mark X
-    unfolding stepped_outcome many_free
+    pub many_step : 10 < k → stepped_outcome (Err Free) ≡ step_of t I mark X
+    unfolding many_free
     many_step l = sym (of_program ∙ for_many program state I r.shallow (lt-ltb 10 (count 32 (emitted_free program)) (subst (λ (z : ℕ). 10 < z) count_is l)))
 
     module _ {unknown : ℕ} (u : unknown ≡ free minus I) (l : k ≤ 10) where
@@ -79,7 +82,7 @@ module _ (t : List ℕ) (I mark X : ℕ) {xs ends notes unions : List ℕ} (r : 
         apart = λ S h. not_true (has I S) (λ i. clash (both_tests S h).1 (ap not i));
       }
 
-      pub looked_step : {x : State} {s : Stepped} → x ≡ state → Looks program x I I unknown s → stepped_outcome s ≡ step_of t I mark X
+      pub looked_step : {x : State} {s : Result Stepped Refusal} → x ≡ state → Looks program x I I unknown s → stepped_outcome s ≡ step_of t I mark X
       unfolding many_free
       looked_step {x} {s} y m =
           let looked : Looked program state I I (emitted_free program minus I) m.all =

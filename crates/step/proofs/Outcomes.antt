@@ -9,7 +9,8 @@ use Rattle.esterel.specs.Reactions.{State}
 use Rattle.esterel.specs.Listing.{nesting}
 use Rattle.esterel.specs.Stepping.{Answer, one, none, several, stepping, many_free, crowded_from}
 use Rattle.table.specs.Outcomes.{Outcome, refusal, number_of}
-use Rattle.step.specs.Answers.{stepping_outcome, step_for, stepped_outcome}
+use Rattle.std.specs.Prelude.{Ok}
+use Rattle.step.specs.Answers.{stepping_outcome, step_for, stepped_values, stepped_outcome}
 use Rattle.step.specs.inner.Looking.{answered}
 
 pub data Tested (p : Statement) (x : State) (I : ℕ) : Outcome → Type 0 where
@@ -48,8 +49,8 @@ module _ (p : Statement) (x : State) (I : ℕ) where
   for_few s f = for_shallow s ∙ ap (λ (b : Bool). cond b (refusal 17) last) f
 
 -- ---- the outcome of an answer
-pub outcome_answered : (a : Answer) → stepped_outcome (answered a) ≡ stepping_outcome a
-unfolding stepped_outcome answered stepping_outcome
+pub outcome_answered : (a : Answer) → stepped_outcome (Ok (answered a)) ≡ stepping_outcome a
+unfolding stepped_values answered stepping_outcome
 outcome_answered (one t) = refl
 outcome_answered none = refl
 outcome_answered several = refl

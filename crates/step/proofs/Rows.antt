@@ -2,114 +2,149 @@
 use mathlib.Core.Path.{◌≡◌, refl, sym, ap, ap₂, ◌∙◌}
 use mathlib.Core.Logic.{◌≢◌}
 use mathlib.Core.Bool.{Bool, true, false, cond, ◌&&◌}
-use mathlib.Core.List.{List}
-use Prim.Native.Nat.{ℕ, suc, ◌+◌, ◌*◌, ◌-◌, ◌/◌, ◌%◌, ◌^◌, ◌≤◌, ◌<◌}
+use mathlib.Core.List.{List, [], ◌∷◌, ◌++◌, append-nil}
+use Prim.Native.Nat.{ℕ}
 use native.Mathlib.Omega.{arith}
+use lib.ListN.{length}
+use lib.Seq.{append_snoc}
+use Rattle.std.specs.List.{push}
 use lib.Dec.{eqb}
-use borrow.Author.Tests.{eq-eqb, ne_eqb}
+use borrow.Author.Tests.{eq-eqb, eqb-true, ne_eqb}
+use Rattle.std.proofs.Math.Bool.{and-false}
 use Rattle.sets.specs.Set.{◌union◌, ◌minus◌}
-use Rattle.sets.proofs.Booleans.{by_cond}
+use Rattle.sets.proofs.Booleans.{by_cond, and_cases}
 use Rattle.esterel.specs.Stepping.{Answer, one, none, several, same, combined}
 use Rattle.esterel.specs.inner.Conditions.{Condition, always, holds, seen}
 use Rattle.esterel.specs.inner.Rows.{Row}
 use Rattle.esterel.specs.inner.Stepping.{row_assumed, row_steps, row_answer, rows_answer}
 use Rattle.esterel.proofs.Conditions.{holds_always}
-use Rattle.area.specs.inner.Layout.{condition_in, packed}
-use Rattle.area.specs.inner.Area.{rows, row_at}
+use Rattle.rows.specs.declared.row.Row.{Row as Packed}
+use Rattle.rows.specs.inner.Layout.{unpacked}
+use Rattle.rows.specs.inner.Area.{all_rows}
+use Rattle.lister.specs.declared.presence.Presence.{Presence}
 use Rattle.step.specs.declared.Stepped.{Stepped}
-use Rattle.step.specs.declared.Stepped.TheVariants.{One, None}
+use Rattle.step.specs.declared.Stepped.TheVariants.{One, None, Several}
 use Rattle.step.specs.inner.Looking.{answered, merged}
 
 -- ---- one row
-module _ (M I A U w o m n : ℕ) (e : o ≡ w / 2 ^ 32) (f : m ≡ (I union o) minus U) (g : n ≡ A minus U) where
+module _ (M I A U : ℕ) (w : Row) {o m n : ℕ} (e : o ≡ w.reacts.emitted) (f : m ≡ (I union o) minus U) (g : n ≡ A minus U) where
   abbrev meets : Bool
-  meets = holds (condition_in w) (seen M (I union o))
+  meets = holds w.when (seen M (I union o))
 
-  row_steps_lem : (l : ℕ) → row_steps M I A U (packed w l) ≡ (eqb m n && meets)
-  unfolding row_steps packed
-  row_steps_lem l =
-      ap (λ (z : ℕ). eqb ((I union z) minus U) (A minus U) && holds (condition_in w) (seen M (I union z))) (sym e)
+  row_steps_lem : row_steps M I A U w ≡ (eqb m n && meets)
+  unfolding row_steps
+  row_steps_lem =
+      ap (λ (z : ℕ). eqb ((I union z) minus U) (A minus U) && holds w.when (seen M (I union z))) (sym e)
       ∙ ap₂ (λ (x y : ℕ). eqb x y && meets) (sym f) (sym g)
 
-  pub steps_off : m ≢ n → (l : ℕ) → false ≡ row_steps M I A U (packed w l)
-  steps_off h l = sym (row_steps_lem l ∙ ap (λ (b : Bool). b && meets) (ne_eqb m n h))
+  pub steps_off : m ≢ n → false ≡ row_steps M I A U w
+  steps_off h = sym (row_steps_lem ∙ ap (λ (b : Bool). b && meets) (ne_eqb m n h))
 
-  pub steps_met : {b : Bool} {F : ℕ} → m ≡ n → F ≡ seen M (I union o) → b ≡ holds (condition_in w) F → (l : ℕ) → b ≡ row_steps M I A U (packed w l)
-  steps_met h s k l =
-      sym (row_steps_lem l ∙ ap (λ (z : Bool). z && meets) (eq-eqb m n h) ∙ sym (k ∙ ap (holds (condition_in w)) s))
+  pub steps_met : {b : Bool} {F : ℕ} → m ≡ n → F ≡ seen M (I union o) → b ≡ holds w.when F → b ≡ row_steps M I A U w
+  steps_met h s k = sym (row_steps_lem ∙ ap (λ (z : Bool). z && meets) (eq-eqb m n h) ∙ sym (k ∙ ap (holds w.when) s))
 
-  pub steps_sure : m ≡ n → condition_in w ≡ always → (l : ℕ) → true ≡ row_steps M I A U (packed w l)
+  pub steps_sure : m ≡ n → w.when ≡ always → true ≡ row_steps M I A U w
   steps_sure h c = steps_met h refl (sym (ap (λ (z : Condition). holds z (seen M (I union o))) c ∙ holds_always (seen M (I union o))))
 
-pub step_given : (I w l o k : ℕ) → o ≡ w / 2 ^ 32 → k ≡ w / 2 ^ 24 % 256
-    → One (I union o) o k l ≡ answered (one (record { assumed = row_assumed I (packed w l); reaction = (packed w l).reacts }))
-unfolding answered packed
-step_given I w l o k e f = ap₂ (λ (a b : ℕ). One (I union a) a b l) e f
+pub step_given : (I : ℕ) (w : Row) {o k l : ℕ} → o ≡ w.reacts.emitted → k ≡ w.reacts.code → l ≡ w.reacts.reached
+    → One (I union o) o k l ≡ answered (one (record { assumed = row_assumed I w; reaction = w.reacts }))
+unfolding answered
+step_given I w {l = l} e f g = ap₂ (λ (a b : ℕ). One (I union a) a b l) e f ∙ ap (One (I union w.reacts.emitted) w.reacts.emitted w.reacts.code) g
 
 -- ---- two answers
-pub merged_answered : (a b : Answer) → merged (answered a) (answered b) ≡ answered (combined a b)
+-- an answer whose E, if it has one, is I joined with O
+abbrev pub Joined : ℕ → Answer → Type 0
+Joined I (one t) = t.assumed ≡ I union t.reaction.emitted
+Joined I none = Unit {0}
+Joined I several = Unit {0}
+
+joined_combined : (I : ℕ) (a b : Answer) → Joined I a → Joined I b → Joined I (combined a b)
+unfolding combined
+joined_combined I none b h k = k
+joined_combined I several b h k = tt
+joined_combined I (one t) none h k = h
+joined_combined I (one t) several h k = tt
+joined_combined I (one t) (one u) h k = by_cond (Joined I) (same t.reaction u.reaction) (one t) several (λ e. h) (λ e. tt)
+
+-- where both are such, the same reaction is the same step
+pub merged_answered : (I : ℕ) (a b : Answer) → Joined I a → Joined I b → merged (answered a) (answered b) ≡ answered (combined a b)
 unfolding answered merged combined same
-merged_answered none b = refl
-merged_answered several (one t) = refl
-merged_answered several none = refl
-merged_answered several several = refl
-merged_answered (one t) none = refl
-merged_answered (one t) several = refl
-merged_answered (one t) (one u) =
-    by_cond (λ (z : Stepped). z ≡ answered (cond (same t.reaction u.reaction) (one t) several)) (same t.reaction u.reaction) _ _
-    (λ h. sym (ap answered (ap (λ (b : Bool). cond b (one t) several) h))) (λ h. sym (ap answered (ap (λ (b : Bool). cond b (one t) several) h)))
+merged_answered I none b h k = refl
+merged_answered I several b h k = refl
+merged_answered I (one t) none h k = refl
+merged_answered I (one t) several h k = refl
+merged_answered I (one t) (one u) h k = ap (λ (z : Bool). cond z (answered (one t)) Several) equals ∙ go (same t.reaction u.reaction)
+  where
+    go : (z : Bool) → cond z (answered (one t)) Several ≡ answered (cond z (one t) several)
+    go true = refl
+    go false = refl
+
+    equals : (eqb t.assumed u.assumed && same t.reaction u.reaction) ≡ same t.reaction u.reaction
+    equals = test (same t.reaction u.reaction) refl
+      where
+        test : (z : Bool) → same t.reaction u.reaction ≡ z → (eqb t.assumed u.assumed && z) ≡ z
+        test false e = and-false (eqb t.assumed u.assumed)
+        test true e =
+            let o : t.reaction.emitted ≡ u.reaction.emitted = eqb-true t.reaction.emitted u.reaction.emitted (and_cases (eqb t.reaction.emitted u.reaction.emitted) (eqb t.reaction.code u.reaction.code && eqb t.reaction.reached u.reaction.reached) e).0 in
+            ap (λ (z : Bool). z && true) (eq-eqb t.assumed u.assumed (h ∙ ap (λ (z : ℕ). I union z) o ∙ sym k))
+
+row_joined : (M I A U : ℕ) (w : Row) → Joined I (row_answer M I A U w)
+unfolding row_answer
+row_joined M I A U w = by_cond (Joined I) (row_steps M I A U w) (one (record { assumed = row_assumed I w; reaction = w.reacts })) none (λ e. refl) (λ e. tt)
+
+rows_joined : (M I A U : ℕ) (ws : List Row) → Joined I (rows_answer M I A U ws)
+unfolding rows_answer
+rows_joined M I A U [] = tt
+rows_joined M I A U (w ∷ ws) = joined_combined I (row_answer M I A U w) (rows_answer M I A U ws) (row_joined M I A U w) (rows_joined M I A U ws)
 
 -- ---- the rows of a list, from the last to the first
-module _ (M I A U : ℕ) (a : List ℕ) where
-  -- the steps among the rows from the i-th of n on
-  pub record Gathering (n i : ℕ) (r : Stepped) : Type 0 where
-    pub within : i ≤ n
-    pub so_far : r ≡ answered (rows_answer M I A U (rows a (2 * i) (n - i)))
+module _ (M I A U : ℕ) where
+  abbrev pub all_answer : List Row → Stepped
+  all_answer ws = answered (rows_answer M I A U ws)
 
-  abbrev row_answers : Row → Answer
-  row_answers w = row_answer M I A U w
+  -- one row more in front
+  module _ (w : Row) (ws : List Row) (r : Stepped) (g : r ≡ all_answer ws) where
+    further : (b : Bool) → b ≡ row_steps M I A U w → {t : Stepped}
+        → t ≡ merged (answered (cond b (one (record { assumed = row_assumed I w; reaction = w.reacts })) none)) r → t ≡ all_answer (w ∷ ws)
+    unfolding rows_answer row_answer
+    further b e h =
+        h ∙ ap₂ (λ (z : Bool) (s : Stepped). merged (answered (cond z (one (record { assumed = row_assumed I w; reaction = w.reacts })) none)) s) e g
+        ∙ merged_answered I (row_answer M I A U w) (rows_answer M I A U ws) (row_joined M I A U w) (rows_joined M I A U ws)
 
-  pub gathering_none : (n : ℕ) → Gathering n n None
-  unfolding answered rows_answer rows
-  gathering_none n = record {
-    within = omega arith;
-    so_far = let e : n - n ≡ 0 = omega arith in sym (ap (λ (z : ℕ). answered (rows_answer M I A U (rows a (2 * n) z))) e);
-  }
+    answer_step : true ≡ row_steps M I A U w → {s t : Stepped} → s ≡ answered (one (record { assumed = row_assumed I w; reaction = w.reacts }))
+        → t ≡ merged s r → t ≡ all_answer (w ∷ ws)
+    answer_step e f h = further true e (h ∙ ap (λ (z : Stepped). merged z r) f)
 
-  pub gathering_all : {n i : ℕ} {r : Stepped} → i ≡ 0 → Gathering n i r → r ≡ answered (rows_answer M I A U (rows a 0 n))
-  gathering_all {n} {i} {r} e g =
-      let f : 2 * i ≡ 0 = omega arith in
-      let h : n - i ≡ n = omega arith in
-      g.so_far ∙ ap₂ (λ (x y : ℕ). answered (rows_answer M I A U (rows a x y))) f h
+    answer_other : false ≡ row_steps M I A U w → r ≡ all_answer (w ∷ ws)
+    unfolding answered merged
+    answer_other e = further false e refl
 
-  -- one row more
-  one_more : {n i : ℕ} {r : Stepped} → 0 < i → Gathering n i r
-      → merged (answered (row_answers (row_at a (2 * (i - 1))))) r ≡ answered (rows_answer M I A U (rows a (2 * (i - 1)) (n - (i - 1))))
-  unfolding rows_answer rows
-  one_more {n} {i} {r} l g =
-      let w = g.within in
-      let e : n - (i - 1) ≡ suc (n - i) = omega arith in
-      let f : 2 * i ≡ 2 * (i - 1) + 2 = omega arith in
-      ap (merged (answered (row_answers (row_at a (2 * (i - 1)))))) (g.so_far ∙ ap (λ (z : ℕ). answered (rows_answer M I A U (rows a z (n - i)))) f)
-      ∙ merged_answered (row_answers (row_at a (2 * (i - 1)))) (rows_answer M I A U (rows a (2 * (i - 1) + 2) (n - i)))
-      ∙ sym (ap (λ (z : ℕ). answered (rows_answer M I A U (rows a (2 * (i - 1)) z))) e)
+-- of the rows of a list all but the rest, which come first, are gathered
+pub record Gathered (s : Presence) (I : ℕ) (all rest : List Packed) (r : Stepped) : Type 0 where
+  pub done : List Packed
+  pub parts : all ≡ rest ++ done
+  pub so_far : r ≡ all_answer s.slotted I s.assumed s.unknown (all_rows done)
 
-  module _ {n i : ℕ} {r : Stepped} (l : 0 < i) (g : Gathering n i r) where
-    abbrev row : Row
-    row = row_at a (2 * (i - 1))
+module _ (s : Presence) (I : ℕ) (all : List Packed) where
+  pub gathered_none : {rest : List Packed} → rest ≡ all → Gathered s I all rest None
+  unfolding answered rows_answer
+  gathered_none {rest} e = record { done = []; parts = sym (append-nil rest ∙ e); so_far = refl }
 
-    further : (b : Bool) → b ≡ row_steps M I A U row → (t : Stepped)
-        → t ≡ merged (answered (cond b (one (record { assumed = row_assumed I row; reaction = row.reacts })) none)) r → Gathering n (i - 1) t
-    unfolding row_answer
-    further b e t h = record {
-      within = let w = g.within in omega arith;
-      so_far = h ∙ ap (λ (z : Bool). merged (answered (cond z (one (record { assumed = row_assumed I row; reaction = row.reacts })) none)) r) e ∙ one_more l g;
+  pub gathered_all : {rest : List Packed} {r : Stepped} → length rest ≡ 0 → Gathered s I all rest r → r ≡ all_answer s.slotted I s.assumed s.unknown (all_rows all)
+  gathered_all {rest = []} e g = g.so_far ∙ ap (λ (z : List Packed). all_answer s.slotted I s.assumed s.unknown (all_rows z)) (sym g.parts)
+  gathered_all {rest = x ∷ rest} e g = absurd (omega (arith, e))
+
+  module _ {before rest : List Packed} (row : Packed) (e : before ≡ push rest row) {r : Stepped} (g : Gathered s I all before r) where
+    one_more : {t : Stepped} → t ≡ all_answer s.slotted I s.assumed s.unknown (unpacked row ∷ all_rows g.done) → Gathered s I all rest t
+    one_more h = record {
+      done = row ∷ g.done;
+      parts = g.parts ∙ ap (λ (z : List Packed). z ++ g.done) e ∙ append_snoc rest row g.done;
+      so_far = h;
     }
 
-    pub gathering_step : true ≡ row_steps M I A U row → (s t : Stepped) → s ≡ answered (one (record { assumed = row_assumed I row; reaction = row.reacts }))
-        → t ≡ merged s r → Gathering n (i - 1) t
-    gathering_step e s t f h = further true e t (h ∙ ap (λ (z : Stepped). merged z r) f)
+    pub gathered_step : true ≡ row_steps s.slotted I s.assumed s.unknown (unpacked row) → {u t : Stepped}
+        → u ≡ answered (one (record { assumed = row_assumed I (unpacked row); reaction = (unpacked row).reacts })) → t ≡ merged u r → Gathered s I all rest t
+    gathered_step f h k = one_more (answer_step s.slotted I s.assumed s.unknown (unpacked row) (all_rows g.done) r g.so_far f h k)
 
-    pub gathering_other : false ≡ row_steps M I A U row → Gathering n (i - 1) r
-    unfolding answered merged
-    gathering_other e = further false e r refl
+    pub gathered_other : false ≡ row_steps s.slotted I s.assumed s.unknown (unpacked row) → Gathered s I all rest r
+    gathered_other f = one_more (answer_other s.slotted I s.assumed s.unknown (unpacked row) (all_rows g.done) r g.so_far f)

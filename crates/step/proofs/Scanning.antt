@@ -18,10 +18,11 @@ use Rattle.sets.proofs.Members.{has_empty, has_union, has_only, has_only_other, 
 use Rattle.esterel.specs.Statement.{Statement, nothing, pause, gotopause, emit, exit, signal, present, sequence, parallel, loop, try, size, depth}
 use Rattle.esterel.specs.Stepping.{emitted_free}
 use Rattle.table.specs.Reading.{kind_of_node, operand_of}
-use Rattle.table.specs.inner.Places.{Placed, placed, Known, statement_of}
+use Rattle.table.specs.inner.Places.{Placed, placed, statement_of}
 use Rattle.table.proofs.Places.{next_short}
-use Rattle.lister.specs.inner.Notes.{place_at, part_at, ReadWhole, EndsFrom, Startable}
-use Rattle.lister.proofs.Nodes.{One, Two, is_nothing_lem, is_pause, is_gotopause, is_emit, is_exit, is_signal, is_present, is_sequence, is_parallel, is_loop, is_try}
+use Rattle.lister.specs.inner.Notes.{unnoted, place_at, part_at, ReadWhole, EndsFrom, KnownTo}
+use Rattle.lister.specs.declared.noted.Note.{Note}
+use Rattle.lister.proofs.Nodes.{One, Two, before_end, is_nothing_lem, is_pause, is_gotopause, is_emit, is_exit, is_signal, is_present, is_sequence, is_parallel, is_loop, is_try}
 
 -- what was met of a signal
 pub record Met : Type 0 where
@@ -35,83 +36,83 @@ met f u = record { free = f; until = u }
 unfoldable pub met_kind : ℕ → ℕ → Met → Met
 met_kind kind end m = cond (eqb kind 3) (met true m.until) (cond (eqb kind 5) (met m.free end) m)
 
-unfoldable pub met_node : ℕ → List ℕ → List ℕ → ℕ → Met → Met
-met_node S xs ends at m =
-    cond (eqb (operand_of (get_or xs at 0)) S) (cond (ltb at m.until) m (met_kind (kind_of_node (get_or xs at 0)) (get_or ends at 0) m)) m
+unfoldable pub met_node : ℕ → List ℕ → List Note → ℕ → Met → Met
+met_node S xs notes at m =
+    cond (eqb (operand_of (get_or xs at 0)) S) (cond (ltb at m.until) m (met_kind (kind_of_node (get_or xs at 0)) (get_or notes at unnoted).end m)) m
 
 -- n nodes from a place on
-unfoldable pub scan : ℕ → List ℕ → List ℕ → ℕ → ℕ → Met → Met
-scan S xs ends at zero m = m
-scan S xs ends at (suc n) m = met_node S xs ends (at + n) (scan S xs ends at n m)
+unfoldable pub scan : ℕ → List ℕ → List Note → ℕ → ℕ → Met → Met
+scan S xs notes at zero m = m
+scan S xs notes at (suc n) m = met_node S xs notes (at + n) (scan S xs notes at n m)
 
 -- ---- one node
-module _ (S : ℕ) (xs ends : List ℕ) (at : ℕ) (m : Met) where
+module _ (S : ℕ) (xs : List ℕ) (notes : List Note) (at : ℕ) (m : Met) where
   abbrev kind : ℕ
   kind = kind_of_node (get_or xs at 0)
 
   abbrev operand : ℕ
   operand = operand_of (get_or xs at 0)
 
-  pub node_other : operand ≢ S → met_node S xs ends at m ≡ m
+  pub node_other : operand ≢ S → met_node S xs notes at m ≡ m
   unfolding met_node
-  node_other h = ap (λ (b : Bool). cond b (cond (ltb at m.until) m (met_kind kind (get_or ends at 0) m)) m) (ne_eqb operand S h)
+  node_other h = ap (λ (b : Bool). cond b (cond (ltb at m.until) m (met_kind kind (get_or notes at unnoted).end m)) m) (ne_eqb operand S h)
 
-  same_node : operand ≡ S → met_node S xs ends at m ≡ cond (ltb at m.until) m (met_kind kind (get_or ends at 0) m)
+  same_node : operand ≡ S → met_node S xs notes at m ≡ cond (ltb at m.until) m (met_kind kind (get_or notes at unnoted).end m)
   unfolding met_node
-  same_node h = ap (λ (b : Bool). cond b (cond (ltb at m.until) m (met_kind kind (get_or ends at 0) m)) m) (eq-eqb operand S h)
+  same_node h = ap (λ (b : Bool). cond b (cond (ltb at m.until) m (met_kind kind (get_or notes at unnoted).end m)) m) (eq-eqb operand S h)
 
-  pub node_hidden : at < m.until → met_node S xs ends at m ≡ m
+  pub node_hidden : at < m.until → met_node S xs notes at m ≡ m
   node_hidden l = go (ℕ_discrete operand S)
     where
-      go : Dec (operand ≡ S) → met_node S xs ends at m ≡ m
-      go (yes e) = same_node e ∙ ap (λ (b : Bool). cond b m (met_kind kind (get_or ends at 0) m)) (lt-ltb at m.until l)
+      go : Dec (operand ≡ S) → met_node S xs notes at m ≡ m
+      go (yes e) = same_node e ∙ ap (λ (b : Bool). cond b m (met_kind kind (get_or notes at unnoted).end m)) (lt-ltb at m.until l)
       go (no h) = node_other h
 
-  node_open : operand ≡ S → m.until ≤ at → met_node S xs ends at m ≡ met_kind kind (get_or ends at 0) m
-  node_open h l = same_node h ∙ ap (λ (b : Bool). cond b m (met_kind kind (get_or ends at 0) m)) (le-ltb at m.until l)
+  node_open : operand ≡ S → m.until ≤ at → met_node S xs notes at m ≡ met_kind kind (get_or notes at unnoted).end m
+  node_open h l = same_node h ∙ ap (λ (b : Bool). cond b m (met_kind kind (get_or notes at unnoted).end m)) (le-ltb at m.until l)
 
-  pub node_emit : kind ≡ 3 → operand ≡ S → m.until ≤ at → met_node S xs ends at m ≡ met true m.until
+  pub node_emit : kind ≡ 3 → operand ≡ S → m.until ≤ at → met_node S xs notes at m ≡ met true m.until
   unfolding met_kind
-  node_emit k h l = node_open h l ∙ ap (λ (b : Bool). cond b (met true m.until) (cond (eqb kind 5) (met m.free (get_or ends at 0)) m)) (eq-eqb kind 3 k)
+  node_emit k h l = node_open h l ∙ ap (λ (b : Bool). cond b (met true m.until) (cond (eqb kind 5) (met m.free (get_or notes at unnoted).end) m)) (eq-eqb kind 3 k)
 
-  not_emit : kind ≢ 3 → operand ≡ S → m.until ≤ at → met_node S xs ends at m ≡ cond (eqb kind 5) (met m.free (get_or ends at 0)) m
+  not_emit : kind ≢ 3 → operand ≡ S → m.until ≤ at → met_node S xs notes at m ≡ cond (eqb kind 5) (met m.free (get_or notes at unnoted).end) m
   unfolding met_kind
-  not_emit k h l = node_open h l ∙ ap (λ (b : Bool). cond b (met true m.until) (cond (eqb kind 5) (met m.free (get_or ends at 0)) m)) (ne_eqb kind 3 k)
+  not_emit k h l = node_open h l ∙ ap (λ (b : Bool). cond b (met true m.until) (cond (eqb kind 5) (met m.free (get_or notes at unnoted).end) m)) (ne_eqb kind 3 k)
 
-  pub node_signal : kind ≡ 5 → operand ≡ S → m.until ≤ at → met_node S xs ends at m ≡ met m.free (get_or ends at 0)
+  pub node_signal : kind ≡ 5 → operand ≡ S → m.until ≤ at → met_node S xs notes at m ≡ met m.free (get_or notes at unnoted).end
   node_signal k h l =
-      not_emit (λ (e : kind ≡ 3). omega arith) h l ∙ ap (λ (b : Bool). cond b (met m.free (get_or ends at 0)) m) (eq-eqb kind 5 k)
+      not_emit (λ (e : kind ≡ 3). omega arith) h l ∙ ap (λ (b : Bool). cond b (met m.free (get_or notes at unnoted).end) m) (eq-eqb kind 5 k)
 
-  node_neither : kind ≢ 3 → kind ≢ 5 → operand ≡ S → m.until ≤ at → met_node S xs ends at m ≡ m
-  node_neither e s h l = not_emit e h l ∙ ap (λ (b : Bool). cond b (met m.free (get_or ends at 0)) m) (ne_eqb kind 5 s)
+  node_neither : kind ≢ 3 → kind ≢ 5 → operand ≡ S → m.until ≤ at → met_node S xs notes at m ≡ m
+  node_neither e s h l = not_emit e h l ∙ ap (λ (b : Bool). cond b (met m.free (get_or notes at unnoted).end) m) (ne_eqb kind 5 s)
 
-  pub node_plain : kind ≢ 3 → kind ≢ 5 → met_node S xs ends at m ≡ m
+  pub node_plain : kind ≢ 3 → kind ≢ 5 → met_node S xs notes at m ≡ m
   node_plain e s = go (ℕ_discrete operand S) (dec_lt at m.until)
     where
-      go : Dec (operand ≡ S) → Dec (at < m.until) → met_node S xs ends at m ≡ m
+      go : Dec (operand ≡ S) → Dec (at < m.until) → met_node S xs notes at m ≡ m
       go (no h) d = node_other h
       go (yes h) (yes l) = node_hidden l
       go (yes h) (no l) = node_neither e s h (omega arith)
 
 -- ---- more nodes
-module _ (S : ℕ) (xs ends : List ℕ) (at : ℕ) where
-  scan_split : (a b : ℕ) (m : Met) → scan S xs ends at (a + b) m ≡ scan S xs ends (at + a) b (scan S xs ends at a m)
+module _ (S : ℕ) (xs : List ℕ) (notes : List Note) (at : ℕ) where
+  scan_split : (a b : ℕ) (m : Met) → scan S xs notes at (a + b) m ≡ scan S xs notes (at + a) b (scan S xs notes at a m)
   unfolding scan
-  scan_split a zero m = let e : a + zero ≡ a = omega arith in ap (λ (z : ℕ). scan S xs ends at z m) e
+  scan_split a zero m = let e : a + zero ≡ a = omega arith in ap (λ (z : ℕ). scan S xs notes at z m) e
   scan_split a (suc b) m =
       let e : a + suc b ≡ suc (a + b) = omega arith in
       let g : at + (a + b) ≡ at + a + b = omega arith in
-      ap (λ (z : ℕ). scan S xs ends at z m) e
-      ∙ ap (λ (z : ℕ). met_node S xs ends z (scan S xs ends at (a + b) m)) g
-      ∙ ap (met_node S xs ends (at + a + b)) (scan_split a b m)
+      ap (λ (z : ℕ). scan S xs notes at z m) e
+      ∙ ap (λ (z : ℕ). met_node S xs notes z (scan S xs notes at (a + b) m)) g
+      ∙ ap (met_node S xs notes (at + a + b)) (scan_split a b m)
 
-  scan_front : (n : ℕ) (m : Met) → scan S xs ends at (suc n) m ≡ scan S xs ends (at + 1) n (met_node S xs ends at m)
+  scan_front : (n : ℕ) (m : Met) → scan S xs notes at (suc n) m ≡ scan S xs notes (at + 1) n (met_node S xs notes at m)
   unfolding scan
   scan_front n m =
       let e : suc n ≡ 1 + n = omega arith in
       let g : at + 0 ≡ at = omega arith in
-      ap (λ (z : ℕ). scan S xs ends at z m) e ∙ scan_split 1 n m
-      ∙ ap (λ (z : ℕ). scan S xs ends (at + 1) n (met_node S xs ends z m)) g
+      ap (λ (z : ℕ). scan S xs notes at z m) e ∙ scan_split 1 n m
+      ∙ ap (λ (z : ℕ). scan S xs notes (at + 1) n (met_node S xs notes z m)) g
 
 -- ---- the nodes of a statement
 -- from m to l over the nodes of p at a place
@@ -128,20 +129,20 @@ scanned_same S p at m l h e = record {
   ends_inside = λ i. let g : l.until ≡ m.until = ap (λ (z : Met). z.until) e in omega arith;
 }
 
-module _ (S : ℕ) (xs ends : List ℕ) where
+module _ (S : ℕ) (xs : List ℕ) (notes : List Note) where
   abbrev after : Statement → ℕ → Met → Met
-  after p at m = scan S xs ends at (size p) m
+  after p at m = scan S xs notes at (size p) m
 
   abbrev Scans : ℕ → Statement → Type 0
   Scans at p = (m : Met) → Scanned S p at m (after p at m)
 
   module _ (at : ℕ) where
     abbrev here : Met → Met
-    here m = met_node S xs ends at m
+    here m = met_node S xs notes at m
 
     -- the first node, and then those of the children
-    first : (p : Statement) (n : ℕ) (m : Met) → size p ≡ suc n → after p at m ≡ scan S xs ends (at + 1) n (here m)
-    first p n m s = ap (λ (z : ℕ). scan S xs ends at z m) s ∙ scan_front S xs ends at n m
+    first : (p : Statement) (n : ℕ) (m : Met) → size p ≡ suc n → after p at m ≡ scan S xs notes (at + 1) n (here m)
+    first p n m s = ap (λ (z : ℕ). scan S xs notes at z m) s ∙ scan_front S xs notes at n m
 
     scans_leaf : (p : Statement) → size p ≡ 1 → emitted_free p ≡ 0 → ((m : Met) → here m ≡ m) → Scans at p
     unfolding scan
@@ -151,12 +152,12 @@ module _ (S : ℕ) (xs ends : List ℕ) where
     unfolding scan size emitted_free
     scans_emit k (no h) m =
         let o = operand_of (get_or xs at 0) in
-        scanned_same S (emit o) at m (after (emit o) at m) (has_only_other o S h) (first (emit o) 0 m refl ∙ node_other S xs ends at m h)
+        scanned_same S (emit o) at m (after (emit o) at m) (has_only_other o S h) (first (emit o) 0 m refl ∙ node_other S xs notes at m h)
     scans_emit k (yes h) m =
         let o = operand_of (get_or xs at 0) in
-        let opened : m.until ≤ at → after (emit o) at m ≡ met true m.until = λ l. first (emit o) 0 m refl ∙ node_emit S xs ends at m k h l in
+        let opened : m.until ≤ at → after (emit o) at m ≡ met true m.until = λ l. first (emit o) 0 m refl ∙ node_emit S xs notes at m k h l in
         record {
-          inside = λ l. first (emit o) 0 m refl ∙ node_hidden S xs ends at m (omega arith);
+          inside = λ l. first (emit o) 0 m refl ∙ node_hidden S xs notes at m (omega arith);
           outside = λ l. ap (λ (z : Met). z.free) (opened l) ∙ sym (or_right m.free (ap (λ (z : ℕ). has (only z) S) h ∙ has_only S));
           ends_inside = λ l. let g : (after (emit o) at m).until ≡ m.until = ap (λ (z : Met). z.until) (opened l) in omega arith;
         }
@@ -176,26 +177,26 @@ module _ (S : ℕ) (xs ends : List ℕ) where
         }
 
     -- a declaration of S: nothing in it counts, up to its end
-    scans_own : (p : Statement) → kind_of_node (get_or xs at 0) ≡ 5 → operand_of (get_or xs at 0) ≡ S → get_or ends at 0 ≡ at + suc (size p)
+    scans_own : (p : Statement) → kind_of_node (get_or xs at 0) ≡ 5 → operand_of (get_or xs at 0) ≡ S → (get_or notes at unnoted).end ≡ at + suc (size p)
         → Scans (at + 1) p → Scans at (signal S p)
     unfolding size emitted_free
     scans_own p k h n ih m =
-        let inner : Met = met m.free (get_or ends at 0) in
+        let inner : Met = met m.free (get_or notes at unnoted).end in
         let opened : m.until ≤ at → after (signal S p) at m ≡ inner = λ l.
-        first (signal S p) (size p) m refl ∙ ap (after p (at + 1)) (node_signal S xs ends at m k h l) ∙ (ih inner).inside (omega arith) in
+        first (signal S p) (size p) m refl ∙ ap (after p (at + 1)) (node_signal S xs notes at m k h l) ∙ (ih inner).inside (omega arith) in
         record {
-          inside = λ l. first (signal S p) (size p) m refl ∙ ap (after p (at + 1)) (node_hidden S xs ends at m (omega arith)) ∙ (ih m).inside (omega arith);
+          inside = λ l. first (signal S p) (size p) m refl ∙ ap (after p (at + 1)) (node_hidden S xs notes at m (omega arith)) ∙ (ih m).inside (omega arith);
           outside = λ l. ap (λ (z : Met). z.free) (opened l) ∙ sym (ap (λ (z : Bool). m.free || z) (has_without_same (emitted_free p) S) ∙ or_false m.free);
-          ends_inside = λ l. let g : (after (signal S p) at m).until ≡ get_or ends at 0 = ap (λ (z : Met). z.until) (opened l) in omega arith;
+          ends_inside = λ l. let g : (after (signal S p) at m).until ≡ (get_or notes at unnoted).end = ap (λ (z : Met). z.until) (opened l) in omega arith;
         }
 
-    scans_signal : (p : Statement) → kind_of_node (get_or xs at 0) ≡ 5 → get_or ends at 0 ≡ at + suc (size p) → Scans (at + 1) p
+    scans_signal : (p : Statement) → kind_of_node (get_or xs at 0) ≡ 5 → (get_or notes at unnoted).end ≡ at + suc (size p) → Scans (at + 1) p
         → Dec (operand_of (get_or xs at 0) ≡ S) → Scans at (signal (operand_of (get_or xs at 0)) p)
     unfolding size emitted_free
     scans_signal p k n ih (yes h) = subst (λ (o : ℕ). Scans at (signal o p)) (sym h) (scans_own p k h n ih)
     scans_signal p k n ih (no h) =
         let o = operand_of (get_or xs at 0) in
-        scans_one (signal o) p refl (has_without_other (emitted_free p) o S h) (λ m. node_other S xs ends at m h) ih
+        scans_one (signal o) p refl (has_without_other (emitted_free p) o S h) (λ m. node_other S xs notes at m h) ih
 
     scans_two : (f : Statement → Statement → Statement) (p q : Statement) → size (f p q) ≡ suc (size p + size q)
         → emitted_free (f p q) ≡ emitted_free p union emitted_free q
@@ -203,7 +204,7 @@ module _ (S : ℕ) (xs ends : List ℕ) where
     scans_two f p q s g h ih jh m =
         let mid : Met = after p (at + 1) m in
         let e : after (f p q) at m ≡ after q (at + 1 + size p) mid =
-        first (f p q) (size p + size q) m s ∙ ap (scan S xs ends (at + 1) (size p + size q)) (h m) ∙ scan_split S xs ends (at + 1) (size p) (size q) m in
+        first (f p q) (size p + size q) m s ∙ ap (scan S xs notes (at + 1) (size p + size q)) (h m) ∙ scan_split S xs notes (at + 1) (size p) (size q) m in
         let c = ih m in
         let d = jh mid in
         record {
@@ -225,7 +226,7 @@ module _ (S : ℕ) (xs ends : List ℕ) where
         }
 
   -- ---- by the kind of the node
-  module _ (n : ℕ) (right : EndsFrom 0 n xs ends) where
+  module _ (n : ℕ) (right : EndsFrom 0 n xs notes) where
     abbrev Whole : ℕ → Type 0
     Whole at = ReadWhole n xs at
 
@@ -242,8 +243,8 @@ module _ (S : ℕ) (xs ends : List ℕ) where
       by_place : (p : Statement) (i : ℕ) → place_at xs at ≡ placed p i → Scans at p → ScansAt at
       by_place p i e c = subst (Scans at) (sym (ap (λ (r : Placed). r.statement) e)) c
 
-      plain : (k : ℕ) → kind_of_node x ≡ k → (k ≡ 3 → ⊥) → (k ≡ 5 → ⊥) → (m : Met) → met_node S xs ends at m ≡ m
-      plain k e a b m = node_plain S xs ends at m (λ h. a (sym e ∙ h)) (λ h. b (sym e ∙ h))
+      plain : (k : ℕ) → kind_of_node x ≡ k → (k ≡ 3 → ⊥) → (k ≡ 5 → ⊥) → (m : Met) → met_node S xs notes at m ≡ m
+      plain k e a b m = node_plain S xs notes at m (λ h. a (sym e ∙ h)) (λ h. b (sym e ∙ h))
 
       at_nothing : kind_of_node x ≡ 0 → ScansAt at
       unfolding size emitted_free
@@ -266,22 +267,22 @@ module _ (S : ℕ) (xs ends : List ℕ) where
       at_exit e = by_place (exit (operand_of x)) (at + 1) (is_exit w e) (scans_leaf at (exit (operand_of x)) refl refl (plain 4 e (λ h. omega arith) (λ h. omega arith)))
 
       at_signal : kind_of_node x ≡ 5 → ScansAt at
-      unfolding size EndsFrom
+      unfolding size
       at_signal e =
           let o = is_signal w e in
           let p : Statement = part_at xs (at + 1) in
           let q : size (part_at xs at) ≡ suc (size p) = ap (λ (r : Placed). size r.statement) o.is in
-          let g : get_or ends at 0 ≡ at + suc (size p) = right at (omega arith) w ∙ end_is w ∙ ap (λ (z : ℕ). at + z) q in
+          let g : (get_or notes at unnoted).end ≡ at + suc (size p) = right at (omega arith) w ∙ end_is w ∙ ap (λ (z : ℕ). at + z) q in
           by_place (signal (operand_of x) p) _ o.is (scans_signal at p e g (ih (at + 1) o.first o.less) (ℕ_discrete (operand_of x) S))
 
       one_below : (f : Statement → Statement) → One n xs at f → ((p : Statement) → size (f p) ≡ suc (size p)) → ((p : Statement) → emitted_free (f p) ≡ emitted_free p)
-          → ((m : Met) → met_node S xs ends at m ≡ m) → ScansAt at
+          → ((m : Met) → met_node S xs notes at m ≡ m) → ScansAt at
       one_below f o s g h =
           let p : Statement = part_at xs (at + 1) in
           by_place (f p) _ o.is (scans_one at f p (s p) (ap (λ (z : ℕ). has z S) (g p)) h (ih (at + 1) o.first o.less))
 
       two_below : (f : Statement → Statement → Statement) → Two n xs at f → ((p q : Statement) → size (f p q) ≡ suc (size p + size q))
-          → ((p q : Statement) → emitted_free (f p q) ≡ emitted_free p union emitted_free q) → ((m : Met) → met_node S xs ends at m ≡ m) → ScansAt at
+          → ((p q : Statement) → emitted_free (f p q) ≡ emitted_free p union emitted_free q) → ((m : Met) → met_node S xs notes at m ≡ m) → ScansAt at
       two_below f t s g h =
           let next = (place_at xs (at + 1)).next in
           let p : Statement = part_at xs (at + 1) in
@@ -324,29 +325,27 @@ module _ (S : ℕ) (xs ends : List ℕ) where
       at_kind (suc (suc (suc (suc (suc (suc (suc (suc (suc (suc zero)))))))))) e h = at_try e
       at_kind (suc (suc (suc (suc (suc (suc (suc (suc (suc (suc (suc k))))))))))) e h = absurd (omega arith)
 
-    scans_at : Known xs → (d at : ℕ) → depth (part_at xs at) < d → Whole at → ScansAt at
+    scans_at : KnownTo n xs → (d at : ℕ) → depth (part_at xs at) < d → Whole at → ScansAt at
     scans_at f zero at h w = absurd (omega arith)
-    scans_at f (suc d) at h w = at_kind at w (λ i v l. scans_at f d i (omega arith) v) (kind_of_node (get_or xs at 0)) refl (f at)
+    scans_at f (suc d) at h w = at_kind at w (λ i v l. scans_at f d i (omega arith) v) (kind_of_node (get_or xs at 0)) refl (f at (before_end w))
 
 -- ---- all nodes
 -- the pass has come to a place: of each signal it has what was met
-pub record Tracked (xs ends : List ℕ) (at free : ℕ) (until : List ℕ) : Type 0 where
+pub record Tracked (xs : List ℕ) (notes : List Note) (at free : ℕ) (until : List ℕ) : Type 0 where
   pub room : length until ≡ 64
-  pub each : (S : ℕ) → met (has free S) (get_or until S 0) ≡ scan S xs ends 0 at (met false 0)
+  pub each : (S : ℕ) → met (has free S) (get_or until S 0) ≡ scan S xs notes 0 at (met false 0)
 
-module _ {xs ends : List ℕ} (r : Startable xs ends 0) where
-  pub first_end : get_or ends 0 0 ≡ size (statement_of xs)
-  unfolding EndsFrom
-  first_end = let e = r.right 0 (omega arith) r.whole in let a = r.whole.full in let b = next_short xs 60 0 in omega arith
+module _ {n : ℕ} {xs : List ℕ} (notes : List Note) (right : EndsFrom 0 n xs notes) (whole : ReadWhole n xs 0) where
+  pub first_end : (get_or notes 0 unnoted).end ≡ size (statement_of xs)
+  first_end = let e = right 0 (omega arith) whole in let a = whole.full in let b = next_short xs 60 0 in omega arith
 
-  pub first_few : get_or ends 0 0 ≤ 1024
-  unfolding EndsFrom
-  first_few = let e = r.right 0 (omega arith) r.whole in let a = r.whole.within in let b = r.few in omega arith
+  pub first_few : (get_or notes 0 unnoted).end ≤ n
+  first_few = let e = right 0 (omega arith) whole in let a = whole.within in omega arith
 
-  pub tracked_all : (at free : ℕ) (until : List ℕ) → at ≡ get_or ends 0 0 → Tracked xs ends at free until → free ≡ emitted_free (statement_of xs)
-  tracked_all at free until e t = ext free (emitted_free (statement_of xs)) (λ S.
-      ap (λ (z : Met). z.free) (t.each S ∙ ap (λ (z : ℕ). scan S xs ends 0 z (met false 0)) (e ∙ first_end))
-      ∙ (scans_at S xs ends r.count r.right r.known (depth (statement_of xs) + 1) 0 (omega arith) r.whole (met false 0)).outside (omega arith))
+  pub tracked_all : KnownTo n xs → (at free : ℕ) (until : List ℕ) → at ≡ (get_or notes 0 unnoted).end → Tracked xs notes at free until → free ≡ emitted_free (statement_of xs)
+  tracked_all known at free until e t = ext free (emitted_free (statement_of xs)) (λ S.
+      ap (λ (z : Met). z.free) (t.each S ∙ ap (λ (z : ℕ). scan S xs notes 0 z (met false 0)) (e ∙ first_end))
+      ∙ (scans_at S xs notes n right known (depth (statement_of xs) + 1) 0 (omega arith) whole (met false 0)).outside (omega arith))
 
 -- ---- one node further
 zero_at : (n S : ℕ) → ◌≡◌ {A = ℕ} (get_or (replicate n 0) S 0) 0
@@ -357,50 +356,54 @@ zero_at (suc n) (suc S) = zero_at n S
 pub zeros_at : (S : ℕ) → ◌≡◌ {A = ℕ} (get_or (replicate 64 0) S 0) 0
 zeros_at S = zero_at 64 S
 
-pub tracked_none : (xs ends until : List ℕ) → length until ≡ 64 → ((S : ℕ) → get_or until S 0 ≡ 0) → Tracked xs ends 0 0 until
+pub tracked_none : (xs : List ℕ) (notes : List Note) (until : List ℕ) → length until ≡ 64 → ((S : ℕ) → get_or until S 0 ≡ 0) → Tracked xs notes 0 0 until
 unfolding scan
-tracked_none xs ends until r z = record { room = r; each = λ S. ap (λ (b : Bool). met b (get_or until S 0)) (has_empty S) ∙ ap (met false) (z S) }
+tracked_none xs notes until r z = record { room = r; each = λ S. ap (λ (b : Bool). met b (get_or until S 0)) (has_empty S) ∙ ap (met false) (z S) }
 
-module _ {xs ends until : List ℕ} {at free : ℕ} (t : Tracked xs ends at free until) (o : ℕ) (own : o ≡ operand_of (get_or xs at 0)) where
-  further : (S : ℕ) → scan S xs ends 0 (at + 1) (met false 0) ≡ met_node S xs ends at (met (has free S) (get_or until S 0))
+pub tracked_is : {xs : List ℕ} {notes : List Note} {u v : List ℕ} {at f g : ℕ} → g ≡ f → v ≡ u → Tracked xs notes at f u → Tracked xs notes at g v
+tracked_is {xs} {notes} {u} {at = at} {g = g} e h t =
+    subst (λ (z : List ℕ). Tracked xs notes at g z) (sym h) (subst (λ (z : ℕ). Tracked xs notes at z u) (sym e) t)
+
+module _ {xs : List ℕ} {notes : List Note} {until : List ℕ} {at free : ℕ} (t : Tracked xs notes at free until) (o : ℕ) (own : o ≡ operand_of (get_or xs at 0)) where
+  further : (S : ℕ) → scan S xs notes 0 (at + 1) (met false 0) ≡ met_node S xs notes at (met (has free S) (get_or until S 0))
   unfolding scan
   further S =
       let e : at + 1 ≡ suc at = omega arith in
       let g : 0 + at ≡ at = omega arith in
-      ap (λ (z : ℕ). scan S xs ends 0 z (met false 0)) e
-      ∙ ap (λ (z : ℕ). met_node S xs ends z (scan S xs ends 0 at (met false 0))) g
-      ∙ ap (met_node S xs ends at) (sym (t.each S))
+      ap (λ (z : ℕ). scan S xs notes 0 z (met false 0)) e
+      ∙ ap (λ (z : ℕ). met_node S xs notes z (scan S xs notes 0 at (met false 0))) g
+      ∙ ap (met_node S xs notes at) (sym (t.each S))
 
-  others : (S : ℕ) → o ≢ S → met (has free S) (get_or until S 0) ≡ scan S xs ends 0 (at + 1) (met false 0)
-  others S h = sym (further S ∙ node_other S xs ends at (met (has free S) (get_or until S 0)) (λ e. h (own ∙ e)))
+  others : (S : ℕ) → o ≢ S → met (has free S) (get_or until S 0) ≡ scan S xs notes 0 (at + 1) (met false 0)
+  others S h = sym (further S ∙ node_other S xs notes at (met (has free S) (get_or until S 0)) (λ e. h (own ∙ e)))
 
   -- what is met of o, and of the others
   by_signal : (free' : ℕ) (until' : List ℕ) → length until' ≡ 64 → ((S : ℕ) → o ≢ S → met (has free' S) (get_or until' S 0) ≡ met (has free S) (get_or until S 0))
-      → met (has free' o) (get_or until' o 0) ≡ met_node o xs ends at (met (has free o) (get_or until o 0)) → Tracked xs ends (at + 1) free' until'
+      → met (has free' o) (get_or until' o 0) ≡ met_node o xs notes at (met (has free o) (get_or until o 0)) → Tracked xs notes (at + 1) free' until'
   by_signal free' until' r f g = record { room = r; each = λ S. go S (ℕ_discrete o S) }
     where
-      go : (S : ℕ) → Dec (o ≡ S) → met (has free' S) (get_or until' S 0) ≡ scan S xs ends 0 (at + 1) (met false 0)
-      go S (yes e) = subst (λ (z : ℕ). met (has free' z) (get_or until' z 0) ≡ scan z xs ends 0 (at + 1) (met false 0)) e (g ∙ sym (further o))
+      go : (S : ℕ) → Dec (o ≡ S) → met (has free' S) (get_or until' S 0) ≡ scan S xs notes 0 (at + 1) (met false 0)
+      go S (yes e) = subst (λ (z : ℕ). met (has free' z) (get_or until' z 0) ≡ scan z xs notes 0 (at + 1) (met false 0)) e (g ∙ sym (further o))
       go S (no h) = f S h ∙ others S h
 
-  pub tracked_hidden : at < get_or until o 0 → Tracked xs ends (at + 1) free until
-  tracked_hidden l = by_signal free until t.room (λ S h. refl) (sym (node_hidden o xs ends at (met (has free o) (get_or until o 0)) l))
+  pub tracked_hidden : at < get_or until o 0 → Tracked xs notes (at + 1) free until
+  tracked_hidden l = by_signal free until t.room (λ S h. refl) (sym (node_hidden o xs notes at (met (has free o) (get_or until o 0)) l))
 
-  pub tracked_plain : kind_of_node (get_or xs at 0) ≢ 3 → kind_of_node (get_or xs at 0) ≢ 5 → Tracked xs ends (at + 1) free until
-  tracked_plain e s = by_signal free until t.room (λ S h. refl) (sym (node_plain o xs ends at (met (has free o) (get_or until o 0)) e s))
+  pub tracked_plain : kind_of_node (get_or xs at 0) ≢ 3 → kind_of_node (get_or xs at 0) ≢ 5 → Tracked xs notes (at + 1) free until
+  tracked_plain e s = by_signal free until t.room (λ S h. refl) (sym (node_plain o xs notes at (met (has free o) (get_or until o 0)) e s))
 
-  pub tracked_emit : {more : ℕ} → more ≡ free union only o → get_or until o 0 ≤ at → kind_of_node (get_or xs at 0) ≡ 3 → Tracked xs ends (at + 1) more until
+  pub tracked_emit : {more : ℕ} → more ≡ free union only o → get_or until o 0 ≤ at → kind_of_node (get_or xs at 0) ≡ 3 → Tracked xs notes (at + 1) more until
   tracked_emit f l k =
-      subst (λ (z : ℕ). Tracked xs ends (at + 1) z until) (sym f)
+      subst (λ (z : ℕ). Tracked xs notes (at + 1) z until) (sym f)
       (by_signal (free union only o) until t.room
       (λ S h. ap (λ (b : Bool). met b (get_or until S 0)) (has_union free (only o) S ∙ ap (λ (b : Bool). has free S || b) (has_only_other o S h) ∙ or_false (has free S)))
       (ap (λ (b : Bool). met b (get_or until o 0)) (has_union free (only o) o ∙ or_right (has free o) (has_only o))
-      ∙ sym (node_emit o xs ends at (met (has free o) (get_or until o 0)) k (sym own) l)))
+      ∙ sym (node_emit o xs notes at (met (has free o) (get_or until o 0)) k (sym own) l)))
 
-  pub tracked_signal : get_or until o 0 ≤ at → kind_of_node (get_or xs at 0) ≡ 5 → Tracked xs ends (at + 1) free (set until o (get_or ends at 0))
+  pub tracked_signal : get_or until o 0 ≤ at → kind_of_node (get_or xs at 0) ≡ 5 → Tracked xs notes (at + 1) free (set until o (get_or notes at unnoted).end)
   tracked_signal l k =
       let r = t.room in
-      by_signal free (set until o (get_or ends at 0)) (length-set until o (get_or ends at 0) ∙ r)
-      (λ S h. ap (met (has free S)) (get_or-set_other until o S (get_or ends at 0) 0 (λ e. h (sym e))))
-      (ap (met (has free o)) (get_or-set_same until o (get_or ends at 0) 0 (omega arith))
-      ∙ sym (node_signal o xs ends at (met (has free o) (get_or until o 0)) k (sym own) l))
+      by_signal free (set until o (get_or notes at unnoted).end) (length-set until o (get_or notes at unnoted).end ∙ r)
+      (λ S h. ap (met (has free S)) (get_or-set_other until o S (get_or notes at unnoted).end 0 (λ e. h (sym e))))
+      (ap (met (has free o)) (get_or-set_same until o (get_or notes at unnoted).end 0 (omega arith))
+      ∙ sym (node_signal o xs notes at (met (has free o) (get_or until o 0)) k (sym own) l))

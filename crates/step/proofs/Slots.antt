@@ -1,12 +1,12 @@
 -- The slots of the members of a set, gathered one after the other: those gathered and those of the members that are left are all.
 use mathlib.Core.Path.{◌≡◌, sym, ap, ◌∙◌, subst}
 use mathlib.Core.Bool.{true}
-use Prim.Native.Nat.{ℕ, ◌≤◌, ◌<◌}
+use Prim.Native.Nat.{ℕ, ◌≤◌}
 use native.Mathlib.Decide.{ℕ_discrete}
-use Rattle.sets.specs.Set.{has, only, ◌union◌, ◌intersect◌, ◌without◌, Within, count}
+use Rattle.sets.specs.Set.{has, only, ◌union◌, ◌intersect◌, ◌without◌, Within}
 use Rattle.sets.proofs.Booleans.{and_both}
 use Rattle.sets.proofs.Members.{has_intersect, has_only, has_only_equal, has_without_other, within_ext, ext, has_empty, union_empty, empty_union, union_swap, union_assoc, either, in_left, in_right, in_both}
-use Rattle.sets.proofs.Counts.{count_width, count_without}
+use Rattle.sets.proofs.Counts.{count_width}
 use Rattle.esterel.specs.inner.Conditions.{slot_of, seen}
 use Rattle.esterel.proofs.Conditions.{other}
 use Rattle.esterel.proofs.Slots.{seen_slot, has_seen, seen_empty, seen_added}
@@ -29,11 +29,11 @@ module _ (M F : ℕ) where
           let (S, m, f, e) = seen_slot M F s h in
           subst (λ (z : ℕ). has (seen M (M intersect F)) z ≡ true) e (has_seen M (M intersect F) S m ∙ has_intersect M F S ∙ and_both (has M S) (has F S) m f)
 
-  pub gathered_none : Gathered (M intersect F) 0
-  gathered_none = record {
+  pub gathered_none : {rest : ℕ} → rest ≡ M intersect F → Gathered rest 0
+  gathered_none e = subst (λ (z : ℕ). Gathered z 0) (sym e) (record {
     of = λ x h. (in_both M F x h).0;
     all = union_empty (seen M (M intersect F)) ∙ seen_known;
-  }
+  })
 
   pub gathered_all : {rest slots : ℕ} → rest ≡ 0 → Gathered rest slots → slots ≡ seen M F
   gathered_all {rest} {slots} z g =
@@ -72,10 +72,6 @@ module _ (M F : ℕ) where
       → Gathered less more
   gathered_next {rest} {slots} {more = more} S h g e f k =
       subst (λ (z : ℕ). Gathered z more) (sym k) (subst (Gathered (rest without S)) (sym (f ∙ ap (λ (z : ℕ). slots union only z) e)) (gathered_more S h g))
-
--- a member fewer is left
-pub fewer : (less rest S : ℕ) → S < 64 → has rest S ≡ true → less ≡ rest without S → count 64 less < count 64 rest
-fewer less rest S l h e = subst (λ (z : ℕ). count 64 z < count 64 rest) (sym e) (count_without 64 rest S l h)
 
 -- a slot is no higher than its signal
 pub slot_low : (M S : ℕ) → slot_of M S ≤ S

@@ -1,30 +1,33 @@
 -- Looking with signals unknown: in one list of rows, or with one of them present and with it absent.
 use mathlib.Core.Path.{◌≡◌, refl, sym, ap, ap₂, ◌∙◌, subst}
-use mathlib.Core.Logic.{◌≢◌}
 use mathlib.Core.Bool.{true}
 use mathlib.Core.List.{List}
+use mathlib.Core.Option.{none as no_rows}
+use Rattle.std.specs.Prelude.{Result, Ok, Err}
 use Prim.Native.Nat.{ℕ, ◌≤◌, ◌<◌}
 use native.Mathlib.Omega.{arith}
-use lib.ListN.{length}
+use lib.ListN.{take}
 use Rattle.sets.specs.Set.{has, only, ◌union◌, ◌without◌, Within, Apart, count}
 use Rattle.sets.proofs.Members.{has_only_other, apart_union}
 use Rattle.sets.proofs.Counts.{count_without, count_empty}
 use Rattle.esterel.specs.Statement.{Statement}
 use Rattle.esterel.specs.Reactions.{State}
-use Rattle.esterel.specs.Stepping.{Answer, one, none, several, combined}
+use Rattle.esterel.specs.Stepping.{Answer, one, none, several, Says, combined}
 use Rattle.esterel.specs.inner.CappedRows.{capped_rows}
-use Rattle.esterel.specs.inner.Stepping.{Found, crowded, answer, Looked, rows_answer}
+use Rattle.esterel.specs.inner.Stepping.{Found, crowded, answer, Looked, within, rows_answer}
 use Rattle.esterel.proofs.Conditions.{other}
 use Rattle.esterel.proofs.Looking.{looked_rows, looked_over, looked_present, looked_absent, looked_split}
-use Rattle.table.specs.Outcomes.{number_of}
-use Rattle.area.specs.inner.Area.{rows, Made}
+use Rattle.table.specs.declared.Refusal.{Refusal}
+use Rattle.table.specs.declared.Refusal.TheVariants.{Crowded}
+use Rattle.rows.specs.declared.row.Row.{Row}
+use Rattle.rows.specs.inner.Area.{all_rows, Standing}
+use Rattle.lister.specs.declared.presence.Presence.{Presence}
+use Rattle.lister.specs.inner.Joins.{rows_under}
 use Rattle.lister.specs.inner.Slots.{Slotted}
 use Rattle.step.specs.declared.Stepped.{Stepped}
-use Rattle.step.specs.declared.Stepped.TheVariants.{Refused}
-use Rattle.step.specs.Answers.{stepped_outcome}
-use Rattle.step.specs.inner.Looking.{answered, found, merged, Unknowns, Attempts, Looks}
-use Rattle.step.proofs.Rows.{merged_answered}
-use Rattle.step.proofs.Outcomes.{outcome_answered, number_answer}
+use Rattle.step.specs.inner.Looking.{answered, found, merged, Looks}
+use Rattle.step.specs.inner.Unknowns.{Unknowns}
+use Rattle.step.proofs.Rows.{Joined, merged_answered}
 
 -- ---- the unknown signals
 pub slots_for : {A U : ℕ} → Unknowns A U → Slotted U U
@@ -52,114 +55,88 @@ module _ {A U less : ℕ} (s : ℕ) (h : has U s ≡ true) (e : less ≡ U witho
         (λ S k. has_only_other s S (other U s S (ap (λ (z : ℕ). has z S) (sym e) ∙ k)).0));
   }
 
--- ---- the number tells what it is
-number_answered : (a : Answer) → number_of (stepped_outcome (answered a)) ≡ 0
-number_answered a = ap number_of (outcome_answered a) ∙ number_answer a
-
-number_refused : (w : ℕ) → number_of (stepped_outcome (Refused w)) ≡ w
-unfolding number_of stepped_outcome
-number_refused w = refl
-
 -- ---- an attempt
--- it gave up, or was not tried
-gave_up : {p : Statement} {x : State} {I A U : ℕ} (room : ℕ) → (U ≡ 0 → Looks p x I A U (Refused 15)) → Attempts p x I A U room (Refused 15)
-gave_up room f = record {
-  accepted = λ z. absurd (let n = number_refused 15 in omega arith);
-  alone = λ z n. f z;
-  ample = λ h e. let n = number_refused 15 in omega arith;
-}
+-- with more signals unknown than the limit, so with some, it was not tried
+pub attempts_none : {p : Statement} {x : State} {I A U many : ℕ} (limit : ℕ) → many ≡ count 64 U → limit < many → U ≡ 0 → Looks p x I A U (Err Crowded)
+attempts_none {U = U} {many} limit e h z = absurd (let c : count 64 U ≡ 0 = ap (count 64) z ∙ count_empty 64 in omega arith)
 
--- with more signals unknown than the limit, so with some
-pub attempts_none : {p : Statement} {x : State} {I A U many : ℕ} (room limit : ℕ) → many ≡ count 64 U → limit < many → Attempts p x I A U room (Refused 15)
-attempts_none {U = U} {many} room limit e h = gave_up room (λ z. absurd (let c : count 64 U ≡ 0 = ap (count 64) z ∙ count_empty 64 in omega arith))
-
-module _ {a b : List ℕ} {n A U : ℕ} (M : ℕ) (p : Statement) (x : State) (I : ℕ) (m : Made a b 0 7810 (capped_rows M p x A U) n) where
-  -- the area was too small, which one of 7810 words is not
-  pub attempts_narrow : 65 < n → Attempts p x I A U (length a) (Refused 66)
-  attempts_narrow h = record {
-    accepted = λ z. absurd (let n = number_refused 66 in omega arith);
-    alone = λ z n. absurd (n (number_refused 66));
-    ample = λ g e. let c = m.cramped h in omega arith;
-  }
+-- where the sets of signals are those that were asked for
+module _ (s : Presence) (p : Statement) (x : State) (I : ℕ) {A U : ℕ} (a : s.assumed ≡ A) (u : s.unknown ≡ U) where
+  looks_as : {r : Result Stepped Refusal} → Looks p x I s.assumed s.unknown r → Looks p x I A U r
+  looks_as {r} l = subst (λ (z : ℕ). Looks p x I A z r) u (subst (λ (z : ℕ). Looks p x I z s.unknown r) a l)
 
   -- given up, which is 15 with no signal unknown
-  pub attempts_over : n ≡ 65 → Attempts p x I A U (length a) (Refused 15)
+  pub attempts_over : rows_under s p x ≡ no_rows → U ≡ 0 → Looks p x I A U (Err Crowded)
   unfolding found
-  attempts_over h = gave_up (length a) over_alone
-    where
-      over_alone : U ≡ 0 → Looks p x I A U (Refused 15)
-      over_alone e = record {
+  attempts_over h e =
+      let z : s.unknown ≡ 0 = u ∙ e in
+      looks_as (record {
         all = crowded;
-        looked = subst (λ (z : ℕ). Looked p x I A z crowded) (sym e) (looked_over M p x I A (ap (λ (z : ℕ). capped_rows M p x A z) (sym e) ∙ m.over h));
+        looked = subst (λ (z : ℕ). Looked p x I s.assumed z crowded) (sym z)
+            (looked_over s.slotted p x I s.assumed (ap (λ (z : ℕ). capped_rows s.slotted p x s.assumed z) (sym z) ∙ h));
         result = refl;
-      }
+      })
 
-  pub attempts_rows : {r : Stepped} → Slotted M U → n ≤ 64 → r ≡ answered (rows_answer M I A U (rows b 0 n)) → Attempts p x I A U (length a) r
+  pub attempts_rows : {t : Stepped} {b : List Row} {n : ℕ} → Standing b (rows_under s p x) n
+      → t ≡ answered (rows_answer s.slotted I s.assumed s.unknown (all_rows (take n b))) → Looks p x I A U (Ok t)
   unfolding found
-  attempts_rows {r} s h e = record { accepted = λ z. looks; alone = λ z k. looks; ample = λ g k. omega (arith, number) }
-    where
-      number : number_of (stepped_outcome r) ≡ 0
-      number = ap (λ (z : Stepped). number_of (stepped_outcome z)) e ∙ number_answered (rows_answer M I A U (rows b 0 n))
-
-      looks : Looks p x I A U r
-      looks = record {
-        all = answer (rows_answer M I A U (rows b 0 n));
-        looked = looked_rows M p x I A U (rows b 0 n) s.within (m.listed h);
-        result = e;
-      }
-
--- the area was not too small
-pub attempts_enough : {p : Statement} {x : State} {I A U room w : ℕ} {r : Stepped} → Attempts p x I A U room r → w ≡ number_of (stepped_outcome r) → w ≢ 66
-    → Attempts p x I A U 7810 r
-attempts_enough t e n = record { accepted = t.accepted; alone = t.alone; ample = λ h f. n (e ∙ f) }
-
--- what was tried, with no signal unknown
-pub attempts_alone : {p : Statement} {x : State} {I A U : ℕ} {r : Stepped} → Attempts p x I A U 7810 r → U ≡ 0 → Looks p x I A U r
-attempts_alone t z = t.alone z (t.ample (omega arith))
+  attempts_rows {t} {b} {n} h e = looks_as (record {
+    all = answer (rows_answer s.slotted I s.assumed s.unknown (all_rows (take n b)));
+    looked = looked_rows s.slotted p x I s.assumed s.unknown (all_rows (take n b)) s.slots.within h.listed;
+    result = ap (λ (z : Stepped). Ok z) e;
+  })
 
 -- ---- with a signal present and with it absent
-refusal_last : (a : Answer) → merged (answered a) (Refused 15) ≡ Refused 15
-unfolding merged answered
-refusal_last (one t) = refl
-refusal_last none = refl
-refusal_last several = refl
+joined_looked : {p : Statement} {x : State} {I A U : ℕ} (a : Answer) → Looked p x I A U (answer a) → Joined I a
+unfolding Says
+joined_looked (one t) (within _ s c) = s.0.from.joined
+joined_looked none l = tt
+joined_looked several l = tt
 
-module _ {p : Statement} {x : State} {I A U more less w : ℕ} {r : Stepped} (s : ℕ) (h : has U s ≡ true) (e : less ≡ U without s) (f : more ≡ A union only s)
-    (u : Unknowns A U) (l : Looks p x I more less r) (g : w ≡ number_of (stepped_outcome r)) where
-  looked_more : Looked p x I (A union only s) (U without s) l.all
-  looked_more = subst (λ (z : ℕ). Looked p x I z (U without s) l.all) f (subst (λ (z : ℕ). Looked p x I more z l.all) e l.looked)
+other_kind : {w : Refusal} {s : Stepped} → ◌≡◌ {A = Result Stepped Refusal} (Err w) (Ok s) → ⊥
+other_kind e = cc
 
-  number : (v : Found) → l.all ≡ v → w ≡ number_of (stepped_outcome (found v))
-  number v d = g ∙ ap (λ (z : Stepped). number_of (stepped_outcome z)) (l.result ∙ ap found d)
+answer_is : {r s : Stepped} → ◌≡◌ {A = Result Stepped Refusal} (Ok r) (Ok s) → r ≡ s
+answer_is e = cc
 
-  -- a refusal stays
-  pub looks_present : w ≢ 0 → Looks p x I A U r
+looked_as : {p : Statement} {x : State} {I : ℕ} {v : Found} {more less B V : ℕ} {r : Result Stepped Refusal} → less ≡ V → more ≡ B
+    → (l : Looks p x I more less r) → l.all ≡ v → Looked p x I B V v
+looked_as {p} {x} {I} {v} {more} {less} {B} {V} e f l d =
+    subst (λ (z : ℕ). Looked p x I z V v) f (subst (λ (z : ℕ). Looked p x I more z v) e (subst (Looked p x I more less) d l.looked))
+
+module _ {p : Statement} {x : State} {I A U : ℕ} (s : ℕ) (h : has U s ≡ true) where
+  -- a refusal is one for all
+  module _ {more less : ℕ} {w : Refusal} (e : less ≡ U without s) where
+    pub looks_present : more ≡ A union only s → Looks p x I more less (Err w) → Looks p x I A U (Err w)
+    unfolding found
+    looks_present f l = go l.all refl
+      where
+        go : (v : Found) → l.all ≡ v → Looks p x I A U (Err w)
+        go crowded d = record { all = crowded; looked = looked_present s h (looked_as e f l d); result = l.result ∙ ap found d }
+        go (answer a) d = absurd (other_kind (l.result ∙ ap found d))
+
+    pub looks_absent : more ≡ A → Looks p x I more less (Err w) → Looks p x I A U (Err w)
+    unfolding found
+    looks_absent f l = go l.all refl
+      where
+        go : (v : Found) → l.all ≡ v → Looks p x I A U (Err w)
+        go crowded d = record { all = crowded; looked = looked_absent s (looked_as e f l d); result = l.result ∙ ap found d }
+        go (answer a) d = absurd (other_kind (l.result ∙ ap found d))
+
+  pub looks_both : {more less same fewer : ℕ} {r q t : Stepped} → less ≡ U without s → fewer ≡ U without s → more ≡ A union only s → same ≡ A
+      → Unknowns A U → Looks p x I more less (Ok r) → Looks p x I same fewer (Ok q) → t ≡ merged r q → Looks p x I A U (Ok t)
   unfolding found
-  looks_present n = go l.all refl
+  looks_both {more} {less} {same} {fewer} {r} {q} {t} e i f j u l m k = go l.all refl m.all refl
     where
-      go : (v : Found) → l.all ≡ v → Looks p x I A U r
-      go crowded d = record { all = crowded; looked = looked_present s h (subst (Looked p x I (A union only s) (U without s)) d looked_more); result = l.result ∙ ap found d }
-      go (answer a) d = absurd (n (number (answer a) d ∙ number_answered a))
-
-  pub looks_both : {q t : Stepped} → w ≡ 0 → Looks p x I A less q → t ≡ merged r q → Looks p x I A U t
-  unfolding found
-  looks_both {q} {t} z m k = go l.all refl m.all refl
-    where
-      absent : Looked p x I A (U without s) m.all
-      absent = subst (λ (y : ℕ). Looked p x I A y m.all) e m.looked
-
-      result_is : (v y : Found) → l.all ≡ v → m.all ≡ y → t ≡ merged (found v) (found y)
-      result_is v y d c = k ∙ ap₂ merged (l.result ∙ ap found d) (m.result ∙ ap found c)
-
-      go : (v : Found) → l.all ≡ v → (y : Found) → m.all ≡ y → Looks p x I A U t
-      go crowded d y c = absurd (let i = sym z ∙ number crowded d ∙ number_refused 15 in omega arith)
-      go (answer a) d crowded c = record {
-        all = crowded;
-        looked = looked_absent s (subst (Looked p x I A (U without s)) c absent);
-        result = result_is (answer a) crowded d c ∙ refusal_last a;
-      }
-      go (answer a) d (answer b) c = record {
-        all = answer (combined a b);
-        looked = looked_split s h (u.apart s h) (subst (Looked p x I (A union only s) (U without s)) d looked_more) (subst (Looked p x I A (U without s)) c absent);
-        result = result_is (answer a) (answer b) d c ∙ merged_answered a b;
-      }
+      go : (v : Found) → l.all ≡ v → (y : Found) → m.all ≡ y → Looks p x I A U (Ok t)
+      go crowded d y c = absurd (other_kind (sym (l.result ∙ ap found d)))
+      go (answer a) d crowded c = absurd (other_kind (sym (m.result ∙ ap found c)))
+      go (answer a) d (answer b) c =
+          let with : Looked p x I (A union only s) (U without s) (answer a) = looked_as e f l d in
+          let sans : Looked p x I A (U without s) (answer b) = looked_as i j m c in
+          record {
+            all = answer (combined a b);
+            looked = looked_split s h (u.apart s h) with sans;
+            result = ap (λ (z : Stepped). Ok z)
+                (k ∙ ap₂ merged (answer_is (l.result ∙ ap found d)) (answer_is (m.result ∙ ap found c)) ∙ merged_answered I a b (joined_looked a with) (joined_looked b sans));
+          }

@@ -1,14 +1,15 @@
 -- What step answers, for every list of bytes (document 02, order 1).
-use Rattle.std.specs.Prelude.{cond, List, [], ◌∷◌, ℕ, ltb}
+use Rattle.std.specs.Prelude.{cond, List, [], ◌∷◌, ℕ, ltb, Result}
 use Rattle.esterel.specs.Statement.{Statement}
 use Rattle.esterel.specs.Reactions.{State}
 use Rattle.esterel.specs.Listing.{nesting}
 use Rattle.esterel.specs.Stepping.{Answer, one, none, several, stepping, many_free, crowded_from}
-use Rattle.table.specs.Outcomes.{Outcome, refusal, values}
+use Rattle.table.specs.declared.Refusal.{Refusal}
+use Rattle.table.specs.Outcomes.{Outcome, refusal, values, outcome}
 use Rattle.table.specs.Reading.{Table, refused, holds, table_of}
 use Rattle.list.specs.Answers.{state_of}
 use Rattle.step.specs.declared.Stepped.{Stepped}
-use Rattle.step.specs.declared.Stepped.TheVariants.{Refused, One, None, Several}
+use Rattle.step.specs.declared.Stepped.TheVariants.{One, None, Several}
 
 -- the values of an answer: 0 for one, with E, O, k, L; 1 for none; 2 for several
 unfoldable pub stepping_outcome : Answer → Outcome
@@ -30,8 +31,10 @@ unfoldable pub step_of : List ℕ → ℕ → ℕ → ℕ → Outcome
 step_of t I mark X = step_in (table_of t) I mark X
 
 -- what is said of an answer of step, case by case: the refusal, or its values
-unfoldable pub stepped_outcome : Stepped → Outcome
-stepped_outcome (Refused w) = refusal w
-stepped_outcome (One E O k L) = values (0 ∷ E ∷ O ∷ k ∷ L ∷ [])
-stepped_outcome None = values (1 ∷ [])
-stepped_outcome Several = values (2 ∷ [])
+unfoldable pub stepped_values : Stepped → List ℕ
+stepped_values (One E O k L) = 0 ∷ E ∷ O ∷ k ∷ L ∷ []
+stepped_values None = 1 ∷ []
+stepped_values Several = 2 ∷ []
+
+abbrev pub stepped_outcome : Result Stepped Refusal → Outcome
+stepped_outcome = outcome stepped_values

@@ -6,27 +6,24 @@
 // absent: at most twice as many lists as there are sets, each made again in a larger area where the small one is too small.
 #![tactic(auto)]
 
+mod among;
 mod free;
 mod looking;
 
 ghost use Rattle.std.specs.Prelude.{◌≡◌};
-ghost use Rattle.table.specs.Outcomes.{number_of};
-ghost use Rattle.list.specs.inner.Preparing.{Rooms};
 ghost use Rattle.step.specs.Answers.{step_of, stepped_outcome};
 
-use list::Prepared;
-use lister::COUNTS;
-use table::MOST_NODES;
+use among::Among;
+use lister::Prepared;
+use looking::Question;
+use table::Refusal;
 
 // "17 if over 10 different signals are emitted outside a declaration of them"
 const MOST_FREE: u8 = 10;
 
-const TOO_FREE: u8 = 17;
-
-// Step's answer: the number of the refusal; the one step; that there is none; that there are several.
-#[derive(Clone, Copy)]
+// Step's answer: the one step; that there is none; that there are several.
+#[derive(Clone, Copy, Debug, PartialEq, Eq)]
 pub enum Stepped {
-    Refused(u8),
     One {
         assumed: u32,
         emitted: u32,
@@ -37,79 +34,25 @@ pub enum Stepped {
     Several,
 }
 
-// The number of the refusal for an answer of step, 0 where it is accepted.
-pub fn refusal(answer: Stepped) -> u8
-    ensures { result ≡ number_of (stepped_outcome answer) }
-{
-    match answer {
-        Stepped::Refused(why) => why,
-        Stepped::One {
-            assumed: _,
-            emitted: _,
-            code: _,
-            reached: _,
-        } => 0,
-        Stepped::None => 0,
-        Stepped::Several => 0,
-    }
-}
-
-// Step, with room lent for the nodes and what is noted of them.
-fn step_with(
-    table: &[u8],
-    provided: u32,
-    mark: u32,
-    labels: u64,
-    nodes: &mut [u16; MOST_NODES],
-    ends: &mut [u16; MOST_NODES],
-    notes: &mut [u16; MOST_NODES],
-    unions: &mut [u64; COUNTS],
-) -> Stepped
-    requires { Rooms nodes.old ends.old notes.old unions.old }
-    ensures { stepped_outcome result ≡ step_of table.now provided mark labels }
-{
-    let prepared = list::prepare(table, nodes, ends, notes, unions);
-    match prepared {
-        Prepared::Refused(why) => Stepped::Refused(why),
-        Prepared::Accepted => {
-            let free = free::emitted_free(nodes, ends);
-            if MOST_FREE < sets::count(free) {
-                return Stepped::Refused(TOO_FREE);
-            }
-            let assumed = provided as u64;
-            let unknown = sets::minus(free, assumed);
-            let mut limit = MOST_FREE;
-            looking::look(
-                nodes,
-                ends,
-                notes,
-                unions,
-                provided,
-                assumed,
-                unknown,
-                list::state_of(mark, labels),
-                &mut limit,
-            )
-        }
-    }
-}
-
 // The step of the state of a mark and a label set from the provided signals.
-pub fn step(table: &[u8], provided: u32, mark: u32, labels: u64) -> Stepped
+pub fn step(table: &[u8], provided: u32, mark: u32, labels: u64) -> Result<Stepped, Refusal>
     ensures { stepped_outcome result ≡ step_of table.now provided mark labels }
 {
-    let mut nodes = [0u16; MOST_NODES];
-    let mut ends = [0u16; MOST_NODES];
-    let mut notes = [0u16; MOST_NODES];
-    let mut unions = [0u64; COUNTS];
-    step_with(
-        table,
+    let mut room = Prepared::new();
+    let program = list::prepare(table, &mut room)?;
+    let free = free::emitted_free(&program);
+    if MOST_FREE < sets::count(free) {
+        return Err(Refusal::Free);
+    }
+    let assumed = provided as u64;
+    let unknown = sets::minus(free, assumed);
+    let among = Among { assumed, unknown };
+    let state = list::state_of(mark, labels);
+    let question = Question {
+        program,
         provided,
-        mark,
-        labels,
-        &mut nodes,
-        &mut ends,
-        &mut notes,
-        &mut unions,
-    )
+        state,
+    };
+    let mut limit = MOST_FREE;
+    question.look(among, &mut limit)
 }

@@ -1,277 +1,156 @@
-// Looking for steps under many assumed sets at once: those that agree with `assumed` outside `unknown`.
-ghost use Rattle.std.specs.Prelude.{◌≡◌, ℕ, ◌+◌, ◌*◌, ◌≤◌, length};
+// Looking for steps under many assumed sets at once.
+ghost use Rattle.std.specs.Prelude.{◌≡◌, ◌+◌, ◌≤◌};
 ghost use Rattle.table.specs.inner.Places.{statement_of};
 ghost use Rattle.esterel.specs.inner.Conditions.{seen};
 ghost use Rattle.esterel.specs.Stepping.{one};
-ghost use Rattle.esterel.specs.inner.CappedRows.{capped_rows};
 ghost use Rattle.esterel.specs.inner.Stepping.{row_assumed, row_steps, rows_answer};
-ghost use Rattle.area.specs.inner.Layout.{packed};
-ghost use Rattle.area.specs.inner.Area.{rows, Made};
-ghost use Rattle.lister.specs.inner.Notes.{Resumable};
-ghost use Rattle.list.specs.inner.Preparing.{state_in, Listable};
-ghost use Rattle.step.specs.inner.Looking.{answered, merged, Unknowns, Attempts, Looks};
+ghost use Rattle.rows.specs.inner.Layout.{unpacked};
+ghost use Rattle.rows.specs.inner.Area.{all_rows};
+ghost use Rattle.list.specs.inner.Preparing.{state_in};
+ghost use Rattle.step.specs.inner.Looking.{answered, merged, Attempts, Tries, Looks};
 
 use crate::Stepped;
-use list::State;
-use lister::COUNTS;
-use table::MOST_NODES;
-
-// What stands for a refusal where an area is too small: no refusal has this number.
-const NARROW: u8 = 66;
+use crate::among::Among;
+use list::{LARGE, Program, SMALL, State};
+use lister::Presence;
+use rows::{MOST, Row, Unlisted};
+use table::Refusal;
 
 // The slots of the members of a set.
 fn slots_in(slotted: u64, set: u64) -> u64
     ensures { result ≡ seen slotted set }
 {
-    let mut rest = slotted & set;
     let mut slots = 0;
-    while rest != 0 {
-        let signal = sets::least(rest);
+    for signal in sets::each(slotted & set) {
         slots = sets::with(slots, lister::slot_of(slotted, signal));
-        rest = sets::without(rest, signal);
     }
     slots
 }
 
-// Whether the row of a word is a step: what is provided and what it emits agree with the assumed set on what is known, and meet its
-// condition.
-fn steps(w: u64, slotted: u64, provided: u32, assumed: u64, unknown: u64) -> bool
-    ensures { (l : ℕ) → result ≡ row_steps slotted provided assumed unknown (packed w l) }
-{
-    let present = provided as u64 | area::emitted_in(w);
-    if sets::minus(present, unknown) != sets::minus(assumed, unknown) {
-        return false;
-    }
-    if area::unconditional(w) {
-        return true;
-    }
-    area::met(w, slots_in(slotted, present))
-}
-
-// The step of a row.
-fn step_of(w: u64, l: u64, provided: u32) -> Stepped
-    ensures { result ≡ answered (one (record { assumed = row_assumed provided (packed w l); reaction = (packed w l).reacts })) }
-{
-    let emitted = area::emitted_in(w) as u32;
-    let code = area::code_in(w);
-    Stepped::One {
-        assumed: provided | emitted,
-        emitted,
-        code: code.0 as u8,
-        reached: l,
-    }
-}
-
-// What two answers come to together; the same reaction found twice is one.
+// What two answers come to together; the same step found twice is one.
 fn combined(first: Stepped, second: Stepped) -> Stepped
     ensures { result ≡ merged first second }
 {
-    match first {
-        Stepped::Refused(_) => first,
-        Stepped::None => second,
-        Stepped::Several => match second {
-            Stepped::Refused(_) => second,
-            Stepped::None => first,
-            Stepped::Several => first,
-            Stepped::One {
-                assumed: _,
-                emitted: _,
-                code: _,
-                reached: _,
-            } => first,
-        },
-        Stepped::One {
-            assumed: _,
-            emitted: o,
-            code: k,
-            reached: l,
-        } => match second {
-            Stepped::Refused(_) => second,
-            Stepped::None => first,
-            Stepped::Several => second,
-            Stepped::One {
-                assumed: _,
-                emitted,
-                code,
-                reached,
-            } => {
-                if o != emitted {
-                    return Stepped::Several;
-                }
-                if k != code {
-                    return Stepped::Several;
-                }
-                if l != reached {
-                    return Stepped::Several;
-                }
-                first
-            }
-        },
+    if first == Stepped::None {
+        return second;
     }
+    if second == Stepped::None || first == second {
+        return first;
+    }
+    Stepped::Several
 }
 
-// The steps among the n rows at the front of an area.
-fn gather(
-    area: &[u64],
-    n: usize,
-    slotted: u64,
-    provided: u32,
-    assumed: u64,
-    unknown: u64,
-) -> Stepped
-    requires { 2 * n ≤ length area.now }
-    ensures { result ≡ answered (rows_answer slotted provided assumed unknown (rows area.now 0 n)) }
-{
-    let mut found = Stepped::None;
-    let mut i = n;
-    while 0 < i {
-        i -= 1;
-        let w = area[2 * i];
-        if steps(w, slotted, provided, assumed, unknown) {
-            found = combined(step_of(w, area[2 * i + 1], provided), found);
-        }
-    }
-    found
-}
-
-// With how many unknown signals a list is worth trying after one with so many had n rows: with one fewer where it gave up, with one
-// more where two such lists would have room in one.
+// With how many unknown signals a list is worth trying after one with so many had n rows: with one more where two such lists would
+// have room in one.
 fn limit_after(many: u8, n: usize) -> u8
     requires { many ≤ 64 }
     ensures { result ≤ many + 1 }
 {
-    if area::MOST < n {
-        return if many == 0 { 0 } else { many - 1 };
-    }
-    if n <= area::MOST / 2 { many + 1 } else { many }
+    if n <= MOST / 2 { many + 1 } else { many }
 }
 
-// The steps under the sets that agree with `assumed` outside `unknown`, from one list of rows in a lent area. 15 where that gives up, or
-// where more signals are unknown than `limit`, so that it would be tried in vain; NARROW where the area is too small.
-fn attempt_in(
-    nodes: &[u16; MOST_NODES],
-    ends: &[u16; MOST_NODES],
-    notes: &[u16; MOST_NODES],
-    unions: &[u64; COUNTS],
-    provided: u32,
-    assumed: u64,
-    unknown: u64,
-    state: State,
-    area: &mut [u64],
-    limit: &mut u8,
-) -> Stepped
-    requires { Resumable nodes.now ends.now notes.now unions.now 0 × Unknowns assumed unknown }
-    ensures { Attempts (statement_of nodes.now) (state_in state) provided assumed unknown (length area.old) result }
-{
-    let many = sets::count(unknown);
-    if *limit < many {
-        return Stepped::Refused(list::CROWDED);
-    }
-    let slotted = list::slotted(nodes, ends, notes, unknown);
-    let n = list::rows_in(
-        nodes, ends, notes, unions, slotted, assumed, unknown, state, area,
-    );
-    if area::OVER < n {
-        return Stepped::Refused(NARROW);
-    }
-    *limit = limit_after(many, n);
-    if area::MOST < n {
-        return Stepped::Refused(list::CROWDED);
-    }
-    gather(area, n, slotted, provided, assumed, unknown)
+// A state of a program, and the signals that are provided there.
+#[derive(Clone, Copy)]
+pub struct Question<'a> {
+    pub program: Program<'a>,
+    pub provided: u32,
+    pub state: State,
 }
 
-// The same in an area that most lists have room in, and in one that is never too small.
-fn attempt(
-    nodes: &[u16; MOST_NODES],
-    ends: &[u16; MOST_NODES],
-    notes: &[u16; MOST_NODES],
-    unions: &[u64; COUNTS],
-    provided: u32,
-    assumed: u64,
-    unknown: u64,
-    state: State,
-    limit: &mut u8,
-) -> Stepped
-    requires { Resumable nodes.now ends.now notes.now unions.now 0 × Unknowns assumed unknown }
-    ensures { Attempts (statement_of nodes.now) (state_in state) provided assumed unknown 272 result }
-{
-    let mut area = [0u64; list::SMALL];
-    attempt_in(
-        nodes, ends, notes, unions, provided, assumed, unknown, state, &mut area, limit,
-    )
-}
+impl Question<'_> {
+    // Whether the row is a step: what is provided and what it emits agree with the assumed set on what is known, and meet its
+    // condition.
+    fn steps(&self, row: Row, signals: &Presence) -> bool
+        ensures { result ≡ row_steps signals.now.slotted self.now.provided signals.now.assumed signals.now.unknown (unpacked row) }
+    {
+        let present = self.provided as u64 | row.emitted();
+        if sets::minus(present, signals.unknown) != sets::minus(signals.assumed, signals.unknown) {
+            return false;
+        }
+        if row.is_unconditional() {
+            return true;
+        }
+        row.meets(slots_in(signals.slotted, present))
+    }
 
-fn attempt_large(
-    nodes: &[u16; MOST_NODES],
-    ends: &[u16; MOST_NODES],
-    notes: &[u16; MOST_NODES],
-    unions: &[u64; COUNTS],
-    provided: u32,
-    assumed: u64,
-    unknown: u64,
-    state: State,
-    limit: &mut u8,
-) -> Stepped
-    requires { Resumable nodes.now ends.now notes.now unions.now 0 × Unknowns assumed unknown }
-    ensures { Attempts (statement_of nodes.now) (state_in state) provided assumed unknown 7810 result }
-{
-    let mut area = [0u64; list::LARGE];
-    attempt_in(
-        nodes, ends, notes, unions, provided, assumed, unknown, state, &mut area, limit,
-    )
-}
+    // The step of a row.
+    fn step_of(&self, row: Row) -> Stepped
+        ensures { result ≡ answered (one (record { assumed = row_assumed self.now.provided (unpacked row); reaction = (unpacked row).reacts })) }
+    {
+        let emitted = row.emitted() as u32;
+        Stepped::One {
+            assumed: self.provided | emitted,
+            emitted,
+            code: row.code().0 as u8,
+            reached: row.labels(),
+        }
+    }
 
-// The steps under the sets that agree with `assumed` outside `unknown`: from one list of rows, or, where that gives up, with one
-// of the unknown signals present and with it absent. Under one set alone giving up is refusal 15. Neighbours give up alike, so
-// `limit` goes on from one to the next; it changes no answer. The large area is asked for here, since the compiler keeps it out of
-// the frame of a function that calls itself.
-pub fn look(
-    nodes: &[u16; MOST_NODES],
-    ends: &[u16; MOST_NODES],
-    notes: &[u16; MOST_NODES],
-    unions: &[u64; COUNTS],
-    provided: u32,
-    assumed: u64,
-    unknown: u64,
-    state: State,
-    limit: &mut u8,
-) -> Stepped
-    requires { Resumable nodes.now ends.now notes.now unions.now 0 × Unknowns assumed unknown }
-    ensures { Looks (statement_of nodes.now) (state_in state) provided assumed unknown result }
-{
-    let mut found = attempt(
-        nodes, ends, notes, unions, provided, assumed, unknown, state, limit,
-    );
-    if crate::refusal(found) == NARROW {
-        found = attempt_large(
-            nodes, ends, notes, unions, provided, assumed, unknown, state, limit,
-        );
+    // The steps among rows.
+    fn gather(&self, rows: &[Row], signals: &Presence) -> Stepped
+        ensures { result ≡ answered (rows_answer signals.now.slotted self.now.provided signals.now.assumed signals.now.unknown (all_rows rows.now)) }
+    {
+        let mut found = Stepped::None;
+        for row in rows.iter().rev() {
+            if self.steps(*row, signals) {
+                found = combined(self.step_of(*row), found);
+            }
+        }
+        found
     }
-    if crate::refusal(found) == 0 {
-        return found;
+
+    // The steps under many sets, from one list of rows in an area of so many, which stands in a frame of its own: `look` calls itself.
+    // A list is not tried where more signals are unknown than `limit`, since it would be in vain.
+    #[inline(never)]
+    fn attempt<const ROOM: usize>(&self, among: Among, limit: &mut u8) -> Result<Stepped, Unlisted>
+        requires { ROOM ≤ 3905 }
+        ensures { Attempts (statement_of self.now.program.prepared.now.noted.nodes) (state_in self.now.state) self.now.provided among.assumed among.unknown ROOM result }
+    {
+        let many = sets::count(among.unknown);
+        if *limit < many {
+            return Err(Unlisted::Over);
+        }
+        let mut area = [Row::NOTHING; ROOM];
+        let signals = self.program.presence(among.assumed, among.unknown);
+        match self.program.rows_in(&signals, self.state, &mut area) {
+            Ok(n) => {
+                *limit = limit_after(many, n);
+                Ok(self.gather(&area[..n], &signals))
+            }
+            Err(Unlisted::Over) => {
+                *limit = many.saturating_sub(1);
+                Err(Unlisted::Over)
+            }
+            Err(why) => Err(why),
+        }
     }
-    if unknown == 0 {
-        return found;
+
+    // The same in an area that most lists have room in, or else in one that is never too small; none where the list gave up.
+    fn tried(&self, among: Among, limit: &mut u8) -> Option<Stepped>
+        ensures { Tries (statement_of self.now.program.prepared.now.noted.nodes) (state_in self.now.state) self.now.provided among.assumed among.unknown result }
+    {
+        match self.attempt::<SMALL>(among, limit) {
+            Ok(stepped) => Some(stepped),
+            Err(Unlisted::Over) => None,
+            Err(_) => self.attempt::<LARGE>(among, limit).ok(),
+        }
     }
-    let signal = sets::least(unknown);
-    let rest = sets::without(unknown, signal);
-    let present = look(
-        nodes,
-        ends,
-        notes,
-        unions,
-        provided,
-        sets::with(assumed, signal),
-        rest,
-        state,
-        limit,
-    );
-    if crate::refusal(present) != 0 {
-        return present;
+
+    // The steps under many sets: from one list of rows, or, where that gives up, with one of the unknown signals present and with it
+    // absent. Under one set alone giving up is refusal 15. Neighbours give up alike, so `limit` goes on from one to the next; it
+    // changes no answer.
+    pub fn look(&self, among: Among, limit: &mut u8) -> Result<Stepped, Refusal>
+        ensures { Looks (statement_of self.now.program.prepared.now.noted.nodes) (state_in self.now.state) self.now.provided among.assumed among.unknown result }
+    {
+        if let Some(stepped) = self.tried(among, limit) {
+            return Ok(stepped);
+        }
+        if among.unknown == 0 {
+            return Err(Refusal::Crowded);
+        }
+        let signal = sets::least(among.unknown);
+        let present = self.look(among.with(signal), limit)?;
+        let absent = self.look(among.without(signal), limit)?;
+        Ok(combined(present, absent))
     }
-    let absent = look(
-        nodes, ends, notes, unions, provided, assumed, rest, state, limit,
-    );
-    combined(present, absent)
 }

@@ -1,27 +1,6 @@
--- Zeros are nodes of kind 0; the state is that of the mark and the labels.
-use Prim.Native.Nat.{◌/◌}
-use lib.ListN.{length}
-use mathlib.Core.Path.{ap}
-use Rattle.table.specs.Reading.{table_of}
-use Rattle.table.proofs.Loading.{known_zeros}
-use Rattle.list.specs.Answers.{fitted, list_of}
-use Rattle.list.proofs.Deliveries.{bytes_as, list_at_lem}
-use borrow.Author.Rules.{rules}
+-- Each number is its bytes.
+use Rattle.list.proofs.Deliveries.{as_bytes}
 use Rattle.list.proofs.list_bytes.Goals as goal
 
-pub list_bytes_with-requires : goal.list_bytes_with-requires
-list_bytes_with-requires c = (
-  search rules,
-  record {
-    nodes = record { all = search rules; known = known_zeros 1024 };
-    noted = record { for_ends = search rules; for_notes = search rules };
-    united = search rules;
-  },
-)
-
 pub returns : goal.returns
-unfolding list_of
-returns c =
-    bytes_as c.list_bytes_with.ensures
-    (ap (fitted (length c.args.o.now / 4) (length c.args.k.now) (length c.args.l.now / 8))
-    (list_at_lem (table_of c.args.table.now) c.args.assumed c.args.mark c.args.labels c.state_of-state.ensures))
+returns c = as_bytes c.listed.ensures

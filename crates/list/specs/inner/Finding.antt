@@ -1,44 +1,39 @@
 -- What the functions that find reactions in an area and write them into buffers ask and leave.
-use Rattle.std.specs.Prelude.{◌≡◌, cond, List, ℕ, ◌*◌, ◌/◌, ◌≤◌, ◌<◌, eqb, ltb, length, get_or}
-use Rattle.esterel.specs.Reactions.{State, Reaction}
+use Rattle.std.specs.Prelude.{◌≡◌, List, [], ◌∷◌, ◌++◌, map, ℕ, ◌/◌, ◌≤◌, length, take, Result, Ok, Err}
+use Rattle.esterel.specs.Reactions.{Reaction}
 use Rattle.esterel.specs.inner.Rows.{reactions}
-use Rattle.table.specs.Reading.{table_of}
-use Rattle.area.specs.inner.Area.{rows}
-use Rattle.list.specs.declared.Answer.{Answer}
-use Rattle.list.specs.declared.Answer.TheVariants.{Refused, Listed}
-use Rattle.list.specs.Answers.{Listing, listed, fitted, listing_outcome, answer_outcome}
-use Rattle.list.specs.Buffers.{Delivered, DeliveredBytes}
-use Rattle.list.specs.inner.Preparing.{list_at}
+use Rattle.table.specs.declared.Refusal.{Refusal}
+use Rattle.table.specs.Outcomes.{number_of_refusal}
+use Rattle.rows.specs.declared.row.Row.{Row}
+use Rattle.rows.specs.inner.Area.{all_rows}
+use Rattle.list.specs.Answers.{Listing, refused, listed, fitted, list_of, written, listing_outcome, answer_outcome}
+use Rattle.list.specs.Buffers.{emitted_in, code_in, reached_in, front}
 
--- the n rows of a large area stand in a small one, where n is that of a list
-pub record Copied (large a b : List ℕ) (n : ℕ) : Type 0 where
-  pub same_length : length b ≡ length a
-  pub copied : n ≤ 64 → (i : ℕ) → i < 2 * n → get_or b i 0 ≡ get_or large i 0
+-- the reactions of rows
+abbrev pub reactions_held : List Row → List Reaction
+reactions_held a = reactions (all_rows a)
 
--- the n reactions in front of an area
-abbrev pub reactions_held : List ℕ → ℕ → List Reaction
-reactions_held a n = reactions (rows a 0 n)
+-- the refusal, or so many reactions in front of an area that is b
+abbrev pub Finds : Listing → Result ℕ Refusal → List Row → Type 0
+Finds v (Err e) b = v ≡ refused (number_of_refusal e)
+Finds v (Ok n) b = (v ≡ listed (reactions_held (take n b))) × (n ≤ 64) × (n ≤ length b)
 
--- the answer where the lister returns n
-unfoldable pub answer_for : ℕ → Answer
-answer_for n = cond (ltb 64 n) (cond (eqb n 67) (Refused 6) (Refused 15)) (Listed n)
+-- numbers one behind the other, each as f spells it
+unfoldable pub spelled : {A : Type 0} → (ℕ → List A) → List ℕ → List A
+spelled f [] = []
+spelled f (v ∷ vs) = f v ++ spelled f vs
 
--- the answer r, and the reactions in front of an area that was a and is b
-pub record Finds (v : Listing) (r : Answer) (a b : List ℕ) : Type 0 where
+-- the answer r, and the buffers from o, k, l to o', k', l', where f spells each O and g each L
+pub record DeliveredAs {A B : Type 0} (f : ℕ → List A) (g : ℕ → List B) (v : Listing) (r : Result ℕ Refusal) (o o' : List A) (k k' : List ℕ) (l l' : List B) : Type 0 where
   pub answer : answer_outcome r ≡ listing_outcome v
-  pub same : length b ≡ length a
-  pub held : (ts : List Reaction) → v ≡ listed ts → (reactions_held b (length ts) ≡ ts) × (length ts ≤ 64)
+  pub signals : o' ≡ front (spelled f (map emitted_in (written v))) o
+  pub codes : k' ≡ front (map code_in (written v)) k
+  pub labels : l' ≡ front (spelled g (map reached_in (written v))) l
 
--- the n reactions in front of an area were delivered as numbers, as bytes, or refused for want of places
-abbrev pub DeliversRows : List ℕ → ℕ → Answer → List ℕ → List ℕ → List ℕ → List ℕ → List ℕ → List ℕ → Type 0
-DeliversRows a n r o o' k k' l l' = Delivered (fitted (length o) (length k) (length l) (listed (reactions_held a n))) r o o' k k' l l'
+-- where there are as many places as groups of m elements in o, and of n in l: the reactions of rows delivered, or refused for want of
+-- places; and what list does with the bytes t in the state of a mark and a label set
+abbrev pub Delivers : {A B : Type 0} → ℕ → (ℕ → List A) → ℕ → (ℕ → List B) → List Row → Result ℕ Refusal → List A → List A → List ℕ → List ℕ → List B → List B → Type 0
+Delivers m f n g a r o o' k k' l l' = DeliveredAs f g (fitted (length o / m) (length k) (length l / n) (listed (reactions_held a))) r o o' k k' l l'
 
-abbrev pub DeliversBytes : List ℕ → ℕ → Answer → List ℕ → List ℕ → List ℕ → List ℕ → List ℕ → List ℕ → Type 0
-DeliversBytes a n r o o' k k' l l' = DeliveredBytes (fitted (length o / 4) (length k) (length l / 8) (listed (reactions_held a n))) r o o' k k' l l'
-
--- what list does with the bytes t in the state x, as numbers and as bytes
-abbrev pub ListsIn : List ℕ → ℕ → State → Answer → List ℕ → List ℕ → List ℕ → List ℕ → List ℕ → List ℕ → Type 0
-ListsIn t E x r o o' k k' l l' = Delivered (fitted (length o) (length k) (length l) (list_at (table_of t) x E)) r o o' k k' l l'
-
-abbrev pub ListsBytesIn : List ℕ → ℕ → State → Answer → List ℕ → List ℕ → List ℕ → List ℕ → List ℕ → List ℕ → Type 0
-ListsBytesIn t E x r o o' k k' l l' = DeliveredBytes (fitted (length o / 4) (length k) (length l / 8) (list_at (table_of t) x E)) r o o' k k' l l'
+abbrev pub ListsInto : {A B : Type 0} → ℕ → (ℕ → List A) → ℕ → (ℕ → List B) → List ℕ → ℕ → ℕ → ℕ → Result ℕ Refusal → List A → List A → List ℕ → List ℕ → List B → List B → Type 0
+ListsInto m f n g t E mark X r o o' k k' l l' = DeliveredAs f g (list_of t E mark X (length o / m) (length k) (length l / n)) r o o' k k' l l'

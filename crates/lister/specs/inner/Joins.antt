@@ -1,45 +1,47 @@
--- Lists of rows that lie one above the other in an area: what is asked and left by the functions that make one list of
--- them. A number above 64 says that there is no list, and is given on.
-use Rattle.std.specs.Prelude.{◌≡◌, ◌⊎◌, List, ℕ, ◌+◌, ◌*◌, ◌≤◌, ◌<◌, length}
-use Rattle.std.proofs.Math.Option.{some}
+-- Lists of rows in front of an area: what is asked and left by the functions that make one list of them.
+use Rattle.std.specs.Prelude.{◌≡◌, Bool, true, false, cond, List, ℕ, ◌+◌, ◌*◌, ◌≤◌, Result, Ok, Err, length}
 use Rattle.esterel.specs.Statement.{Statement, depth}
 use Rattle.esterel.specs.Reactions.{State, start}
-use Rattle.esterel.specs.inner.Rows.{Row, going_rows}
-use Rattle.esterel.specs.inner.CappedRows.{CappedRows, change_rows, then_rows, capped_rows}
-use Rattle.area.specs.inner.Rules.{Clashless}
-use Rattle.area.specs.inner.Area.{rows, InOrder, Made, Merged}
+use Rattle.esterel.specs.inner.Rows.{Row, each_row, going_rows}
+use Rattle.esterel.specs.inner.CappedRows.{CappedRows, collect_rows, change_rows, capped_rows}
+use Rattle.rows.specs.declared.row.Row.{Row as Packed}
+use Rattle.rows.specs.declared.lists.Unlisted.{Unlisted}
+use Rattle.rows.specs.declared.lists.Unlisted.TheVariants.{Over, Cramped, Refused}
+use Rattle.rows.specs.inner.Rules.{Clashless}
+use Rattle.rows.specs.inner.Area.{rows, InOrder, Made}
+use Rattle.lister.specs.declared.presence.Presence.{Presence}
 
--- so many words are enough to list a statement
+-- so many rows are room enough to list a statement
 abbrev pub room_for : Statement → ℕ
-room_for p = 128 * depth p + 130
+room_for p = 64 * depth p + 65
 
--- from a to b the rows of p, in the state x under E with U unknown, were made at base
-abbrev pub MadeRows : ℕ → Statement → State → ℕ → ℕ → List ℕ → List ℕ → ℕ → ℕ → Type 0
-MadeRows M p x E U a b base r = Made a b base (base + room_for p) (capped_rows M p x E U) r
+-- the rows of p in the state x
+abbrev pub rows_under : Presence → Statement → State → CappedRows
+rows_under s p x = capped_rows s.slotted p x s.assumed s.unknown
 
--- the next list stands at top: above the n rows at base, or at the end of the area, where nothing can be written
-pub record Above (a : List ℕ) (base n top : ℕ) : Type 0 where
-  pub within : top ≤ length a
-  pub small : n ≤ 64 → (top ≡ base + 2 * n) ⊎ (length a ≤ top) × (length a < base + 2 * n + 2)
-  pub large : 64 < n → length a ≤ top
+-- they were made in an area that is now a
+abbrev pub MadeRows : Presence → Statement → State → List Packed → Result ℕ Unlisted → Type 0
+MadeRows s p x a r = Made a (room_for p) (rows_under s p x) r
 
--- the n₁ rows at base and the n₂ above them were made one list
-pub record MadeOne (g : List Row → List Row → List Row) (a b : List ℕ) (base n₁ n₂ r : ℕ) : Type 0 where
-  pub small : n₁ ≤ 64 → Merged g a b base n₁ n₂ r
-  pub large : 64 < n₁ → (r ≡ n₁) × (b ≡ a)
+-- the list of which r tells in the area a was changed row by row, and r' tells of it in b
+abbrev pub Altered : (Row → List Row) → Result ℕ Unlisted → List Packed → List Packed → Result ℕ Unlisted → Type 0
+Altered f (Ok n) a b r' = Made b 0 (collect_rows (each_row (rows a n) f)) r'
+Altered f (Err e) a b r' = r' ≡ Err e
 
--- n rows stand at base
-abbrev pub Standing : List ℕ → ℕ → ℕ → Type 0
-Standing a base n = n ≤ 64 → (base + 2 * n ≤ length a) × InOrder (rows a base n) × Clashless (rows a base n)
+-- a list would have over 64 rows
+abbrev pub is_over : Result ℕ Unlisted → Bool
+is_over (Ok n) = false
+is_over (Err Over) = true
+is_over (Err Cramped) = false
+is_over (Err Refused) = false
 
--- the list w follows the n rows at base
-pub record Followed (w : CappedRows) (a b : List ℕ) (base need n r : ℕ) : Type 0 where
-  pub small : n ≤ 64 → Made a b base need (then_rows (some (rows a base n)) w) r
-  pub large : 64 < n → (r ≡ n) × (b ≡ a)
+-- n rows stand in front
+pub record Front (a : List Packed) (n : ℕ) : Type 0 where
+  pub small : n ≤ 64
+  pub fits : n ≤ length a
+  pub rising : InOrder (rows a n)
+  pub free : Clashless (rows a n)
 
--- that of a started statement, with room for it above 64 rows; that of the body of a loop, which starts again
-abbrev pub FollowedBy : ℕ → Statement → ℕ → ℕ → List ℕ → List ℕ → ℕ → ℕ → ℕ → Type 0
-FollowedBy M p E U a b base n r = Followed (capped_rows M p start E U) a b base (base + 128 + room_for p) n r
-
-abbrev pub FollowedAgain : ℕ → Statement → ℕ → ℕ → List ℕ → List ℕ → ℕ → ℕ → ℕ → Type 0
-FollowedAgain M p E U a b base n r = Followed (change_rows going_rows (capped_rows M p start E U)) a b base (base + 128 + room_for p) n r
+-- the rows of a started statement; where it starts again, as the body of a loop, of these those that go on
+abbrev pub following : Presence → Bool → Statement → CappedRows
+following s again p = cond again (change_rows going_rows (rows_under s p start)) (rows_under s p start)

@@ -1,11 +1,24 @@
--- Zeros are nodes of kind 0.
-use Rattle.table.proofs.Loading.{known_zeros}
-use borrow.Author.Rules.{rules}
+-- By what was prepared, the number of signals that are emitted free, and what looking comes to.
+use Rattle.std.proofs.lemmas.Result.{err_from_is_err_and}
+use Rattle.step.proofs.Answers.{unready_step, many_step, few_unknown, looked_step}
 use Rattle.step.proofs.step.Goals as goal
 
-pub step_with-requires : goal.step_with-requires
-step_with-requires c = record {
-  nodes = record { all = search rules; known = known_zeros 1024 };
-  noted = record { for_ends = search rules; for_notes = search rules };
-  united = search rules;
+pub returns-in_err-program : goal.returns-in_err-program
+returns-in_err-program c =
+    let p = err_from_is_err_and c.from_residual.result c.from_residual.ensures.1 in
+    rw (p.1, p.2) (unready_step c.args.table.now c.args.provided c.args.mark c.args.labels _ c.in_err-program.ensures)
+
+pub returns-then-count-gt-MOST_FREE : goal.returns-then-count-gt-MOST_FREE
+returns-then-count-gt-MOST_FREE c =
+    many_step c.args.table.now c.args.provided c.args.mark c.args.labels c.in_ok-program.ensures c.emitted_free-free.ensures c.count.ensures c.if-count-gt-MOST_FREE.true
+
+pub invariant_of-among : goal.invariant_of-among
+invariant_of-among c = record {
+  unknowns = few_unknown c.args.table.now c.args.provided c.args.mark c.args.labels c.in_ok-program.ensures c.emitted_free-free.ensures c.count.ensures
+      c.minus-unknown.ensures c.if-count-gt-MOST_FREE.false;
 }
+
+pub returns : goal.returns
+returns c =
+    looked_step c.args.table.now c.args.provided c.args.mark c.args.labels c.in_ok-program.ensures c.emitted_free-free.ensures c.count.ensures
+    c.minus-unknown.ensures c.if-count-gt-MOST_FREE.false c.state_of-state.ensures c.look.ensures

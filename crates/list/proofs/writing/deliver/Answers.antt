@@ -1,28 +1,30 @@
--- By the places in the three buffers.
-use lib.ListN.{length}
+-- The invariant: of each buffer i places are written.
 use mathlib.Core.Path.{refl, sym}
+use native.Mathlib.Omega.{arith}
+use Rattle.table.specs.declared.Refusal.TheVariants.{Places}
 use Rattle.list.proofs.Limits.{held_length}
-use Rattle.list.proofs.Deliveries.{delivered_refused, delivered, short_signals, short_codes, short_labels, long_enough}
+use Rattle.list.proofs.Deliveries.{refused_as, listed_as, short, long_enough}
+use Rattle.list.proofs.Fills.{filling_none, filling_step, filling_all}
 use Rattle.list.proofs.writing.deliver.Goals as goal
 
-pub returns-then-o-count : goal.returns-then-o-count
-returns-then-o-count c =
-    delivered_refused _ 16 (short_signals (length c.args.o.now) (length c.args.k.now) (length c.args.l.now) c.args.area.now c.args.n c.if-o-count.true) _ _ _
-    _ refl
+pub returns-then-places-rows : goal.returns-then-places-rows
+returns-then-places-rows g c =
+    refused_as _ Places (short _ _ _ _ c.places.ensures c.min.ensures c.places-2.ensures c.min-places.ensures c.args.rows.now refl c.if-places-rows.true)
+    g.O.Place.spell g.L.Place.spell c.args.o.now c.args.k.now c.args.l.now
 
-pub returns-then-k-count : goal.returns-then-k-count
-returns-then-k-count c =
-    delivered_refused _ 16 (short_codes (length c.args.o.now) (length c.args.k.now) (length c.args.l.now) c.args.area.now c.args.n c.if-k-count.true) _ _ _ _
-    refl
+pub loop-i-init : goal.loop-i-init
+loop-i-init g c =
+    filling_none g.O.Place.spell g.O.Place.width g.L.Place.spell g.L.Place.width c.args.rows.now c.args.o.now c.args.k.now c.args.l.now
 
-pub returns-then-l-count : goal.returns-then-l-count
-returns-then-l-count c =
-    delivered_refused _ 16 (short_labels (length c.args.o.now) (length c.args.k.now) (length c.args.l.now) c.args.area.now c.args.n c.if-l-count.true) _ _ _
-    _ refl
+pub loop-i-preserved : goal.loop-i-preserved
+loop-i-preserved g c =
+    filling_step g.O.Place.spell g.O.Place.width g.L.Place.spell g.L.Place.width c.args.rows.now c.args.o.now c.args.k.now c.args.l.now c.loop-i.invariant
+    _ _ _ _ c.loop-i-test.true c.emitted.ensures.0 c.put.auto.buffer c.put.ensures c.code.ensures.0 c.labels.ensures c.put-in-loop-i.auto.buffer
+    c.put-in-loop-i.ensures c.places.ensures c.min.ensures c.places-2.ensures (omega arith)
 
 pub returns : goal.returns
-returns c =
-    delivered _ _
-    (long_enough (length c.args.o.now) (length c.args.k.now) (length c.args.l.now) c.args.area.now c.args.n c.if-o-count.false c.if-k-count.false c.if-l-count.false)
-    c.args.n (sym (held_length c.args.area.now 0 c.args.n)) c.fill_signals.ensures c.fill_codes.ensures
-    c.fill_labels.ensures
+returns g c =
+    let all = filling_all g.O.Place.spell g.O.Place.width g.L.Place.spell g.L.Place.width c.args.rows.now c.args.o.now c.args.k.now c.args.l.now c.loop-i.invariant (omega arith) in
+    listed_as _ _ _
+    (long_enough _ _ _ _ c.places.ensures c.min.ensures c.places-2.ensures c.min-places.ensures c.args.rows.now refl c.if-places-rows.false)
+    (sym (held_length c.args.rows.now)) all.0 all.1 all.2

@@ -1,7 +1,12 @@
 -- The label is one word.
-use Rattle.lister.proofs.Starts.{pause_one}
+use mathlib.Core.Path.{ap, ◌∙◌}
+use Prim.Native.Nat.{ℕ}
+use Rattle.sets.proofs.Members.{only_fits}
+use Rattle.esterel.specs.Listing.{reaction}
+use Rattle.esterel.specs.inner.Conditions.{always}
+use Rattle.esterel.specs.inner.Rows.{row_when}
 use Rattle.lister.proofs.reacting.paused.Goals as goal
 
 pub returns : goal.returns
-returns c =
-    pause_one c.args.label.0 _ c.requires.1 c.singleton-own.ensures c.alone.ensures
+unfolding always
+returns c = c.new.ensures ∙ ap (λ (z : ℕ). row_when always (reaction 0 1 z)) (c.singleton.ensures ∙ only_fits 64 c.args.label.0 c.requires)

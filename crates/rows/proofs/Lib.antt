@@ -1,0 +1,11 @@
+pub mod Order
+pub mod Members
+pub mod Words
+pub mod Rules
+pub mod Changes
+pub mod Areas
+pub mod Puts
+pub mod Filling
+pub mod Merges
+pub mod Products
+pub mod Callers
