@@ -3,7 +3,7 @@
 #![tactic(auto)]
 
 ghost use Rattle.std.specs.Prelude.{◌≡◌, ◌/◌, length};
-ghost use Rattle.table.specs.Outcomes.{number_of, cell_after};
+ghost use Rattle.table.specs.Outcomes.{number_of_refusal, number_of, cell_after};
 ghost use Rattle.table.specs.Reading.{check_of};
 ghost use Rattle.reach.specs.Answers.{reach_of};
 ghost use Rattle.trim.specs.Answers.{trim_of, buffer_of};
@@ -12,18 +12,22 @@ ghost use Rattle.step.specs.Answers.{step_of};
 ghost use Rattle.text.specs.Answers.{read_of, read_buffer, write_of, write_buffer};
 ghost use Rattle.deskheron.specs.Answers.{ListEntered};
 
-use list::Answer;
-use reach::Reached;
 use step::Stepped;
-use table::Checked;
-use trim::Trimmed;
+use table::Refusal;
 
-// The answers of step: one with its E, O, k and L; none; several.
+// The answers of step by the numbers that C knows: one with its E, O, k and L; none; several.
 const ONE: u32 = 0;
 
 const NONE: u32 = 1;
 
 const SEVERAL: u32 = 2;
+
+// What an entry returns for a refusal.
+fn refused(refusal: Refusal) -> u32
+    ensures { result ≡ number_of_refusal refusal }
+{
+    refusal.number() as u32
+}
 
 // Check: the node count of a table.
 #[unsafe(no_mangle)]
@@ -31,12 +35,13 @@ pub extern "C" fn deskheron_check(table: &[u8], nodes: &mut u32) -> u32
     ensures value { result ≡ number_of (check_of table.now) }
     ensures nodes_after { nodes.new ≡ cell_after (check_of table.now) 0 nodes.old }
 {
-    let checked = table::check(table);
-    let Checked::Accepted(count) = checked else {
-        return table::refusal(checked) as u32;
-    };
-    *nodes = count as u32;
-    0
+    match table::check(table) {
+        Ok(count) => {
+            *nodes = count as u32;
+            0
+        }
+        Err(refusal) => refused(refusal),
+    }
 }
 
 // Reach: whether the started program can end, the labels that it can pause at, R, and the number of rounds.
@@ -54,21 +59,16 @@ pub extern "C" fn deskheron_reach(
     ensures reached_after { reached.new ≡ cell_after (reach_of table.now) 2 reached.old }
     ensures rounds_after { rounds.new ≡ cell_after (reach_of table.now) 3 rounds.old }
 {
-    let answer = reach::reach(table);
-    let Reached::Found {
-        ends,
-        labels,
-        set,
-        rounds: count,
-    } = answer
-    else {
-        return reach::refusal(answer) as u32;
-    };
-    *start_ends = ends as u8;
-    *start_labels = labels;
-    *reached = set;
-    *rounds = count;
-    0
+    match reach::reach(table) {
+        Ok(found) => {
+            *start_ends = found.ends as u8;
+            *start_labels = found.labels;
+            *reached = found.set;
+            *rounds = found.rounds;
+            0
+        }
+        Err(refusal) => refused(refusal),
+    }
 }
 
 // Trim: the trimmed table at the front of the buffer, its node count and its length, and the share that was kept.
@@ -88,15 +88,16 @@ pub extern "C" fn deskheron_trim(
     ensures thousandths_after { thousandths.new ≡ cell_after (trim_of table.now (length out.old)) 2 thousandths.old }
     ensures remainder_after { remainder.new ≡ cell_after (trim_of table.now (length out.old)) 3 remainder.old }
 {
-    let answer = trim::trim(table, out);
-    let Trimmed::Accepted(written) = answer else {
-        return trim::refusal(answer) as u32;
-    };
-    *nodes = written.nodes as u32;
-    *bytes = written.bytes;
-    *thousandths = written.share.thousandths;
-    *remainder = written.share.remainder;
-    0
+    match trim::trim(table, out) {
+        Ok(written) => {
+            *nodes = written.nodes as u32;
+            *bytes = written.bytes;
+            *thousandths = written.share.thousandths;
+            *remainder = written.share.remainder;
+            0
+        }
+        Err(refusal) => refused(refusal),
+    }
 }
 
 // List: the reactions of the state of a mark and a label set, 4 bytes for each O, 1 for each k, 8 for each L.
@@ -116,12 +117,13 @@ pub extern "C" fn deskheron_list(
         result o.old o.new k.old k.new l.old l.new
         count.old count.new }
 {
-    let answer = list::list_bytes(table, assumed, mark, labels, o, k, l);
-    let Answer::Listed(n) = answer else {
-        return list::refusal(answer) as u32;
-    };
-    *count = n;
-    0
+    match list::list_bytes(table, assumed, mark, labels, o, k, l) {
+        Ok(listed) => {
+            *count = listed;
+            0
+        }
+        Err(refusal) => refused(refusal),
+    }
 }
 
 // Step: the answer for the state of a mark and a label set from the provided signals, and where it is one, its E, O, k and L. The
@@ -145,15 +147,15 @@ pub extern "C" fn deskheron_step(
     ensures code_after { code.new ≡ cell_after (step_of table.now provided mark labels) 3 code.old }
     ensures reached_after { reached.new ≡ cell_after (step_of table.now provided mark labels) 4 reached.old }
 {
-    let stepped = step::step(table, provided, mark, labels);
-    match stepped {
-        Stepped::Refused(why) => why as u32,
-        Stepped::One {
-            assumed: e,
-            emitted: o,
-            code: k,
-            reached: l,
-        } => {
+    match step::step(table, provided, mark, labels) {
+        Ok(
+            Stepped::One {
+                assumed: e,
+                emitted: o,
+                code: k,
+                reached: l,
+            },
+        ) => {
             *answer = ONE;
             *assumed = e;
             *emitted = o;
@@ -161,14 +163,15 @@ pub extern "C" fn deskheron_step(
             *reached = l;
             0
         }
-        Stepped::None => {
+        Ok(Stepped::None) => {
             *answer = NONE;
             0
         }
-        Stepped::Several => {
+        Ok(Stepped::Several) => {
             *answer = SEVERAL;
             0
         }
+        Err(refusal) => refused(refusal),
     }
 }
 
@@ -179,12 +182,13 @@ pub extern "C" fn deskheron_read_text(text: &[u8], out: &mut [u8], bytes: &mut u
     ensures out_after { out.new ≡ read_buffer text.now out.old }
     ensures bytes_after { bytes.new ≡ cell_after (read_of text.now (length out.old)) 0 bytes.old }
 {
-    let answer = reader::read(text, out);
-    let text::Answer::Written(length) = answer else {
-        return text::refusal(answer) as u32;
-    };
-    *bytes = length;
-    0
+    match reader::read(text, out) {
+        Ok(length) => {
+            *bytes = length;
+            0
+        }
+        Err(refusal) => refused(refusal),
+    }
 }
 
 // Writes a table as text: its text at the front of the buffer, and the text's length.
@@ -194,10 +198,11 @@ pub extern "C" fn deskheron_write_text(table: &[u8], out: &mut [u8], bytes: &mut
     ensures out_after { out.new ≡ write_buffer table.now out.old }
     ensures bytes_after { bytes.new ≡ cell_after (write_of table.now (length out.old)) 0 bytes.old }
 {
-    let answer = writer::write(table, out);
-    let text::Answer::Written(count) = answer else {
-        return text::refusal(answer) as u32;
-    };
-    *bytes = count;
-    0
+    match writer::write(table, out) {
+        Ok(count) => {
+            *bytes = count;
+            0
+        }
+        Err(refusal) => refused(refusal),
+    }
 }

@@ -4,68 +4,49 @@
 
 ghost use Rattle.std.specs.Prelude.{◌≤◌, length, IfOk};
 
-use reach::Reached;
-use std::io;
 use std::io::Read;
-use trim::Trimmed;
+use std::{fmt, io};
+use table::Refusal;
 
 // The bytes of the longest table.
 const LONGEST: usize = 1282;
 
-// A label is below this.
-const LABELS: u8 = 64;
-
-// A word and a number.
-fn print_number(rt: &impl Print, word: &str, number: u64) -> io::Result<()> {
-    print!(rt; "{word}{number}")
+// What is reported of a table: its nodes before and after trimming, R, and the number of rounds.
+#[derive(Clone, Copy)]
+struct Report {
+    before: u16,
+    after: u16,
+    set: u64,
+    rounds: u32,
 }
 
-fn print_refused(rt: &impl Print, refusal: u8) -> io::Result<()> {
-    print_number(rt, "refused ", refusal as u64)?;
-    println!(rt)
-}
-
-// The labels of the set, rising.
-fn print_labels(rt: &impl Print, set: u64) -> io::Result<()> {
-    print!(rt; "labels")?;
-    for label in 0u8..LABELS {
-        if sets::contains(set, label) {
-            print_number(rt, " ", label as u64)?;
+impl fmt::Display for Report {
+    fn fmt<W: fmt::Write>(&self, f: &mut fmt::Formatter<W>) -> fmt::Result {
+        writeln!(f, "nodes {} {}", self.before, self.after)?;
+        write!(f, "labels")?;
+        for label in sets::each(self.set) {
+            write!(f, " {label}")?;
         }
+        writeln!(f)?;
+        write!(f, "rounds {}", self.rounds)
     }
-    println!(rt)
 }
 
-fn print_report(rt: &impl Print, before: u16, after: u16, set: u64, rounds: u32) -> io::Result<()> {
-    print_number(rt, "nodes ", before as u64)?;
-    print_number(rt, " ", after as u64)?;
-    println!(rt)?;
-    print_labels(rt, set)?;
-    print_number(rt, "rounds ", rounds as u64)?;
-    println!(rt)
-}
-
-// Reach gives check's refusals. After that trim has only 12 to give, since there is room for the longest table.
-fn report(rt: &impl Print, table: &[u8]) -> io::Result<()> {
-    let reached = reach::reach(table);
-    let Reached::Found {
-        ends: _,
-        labels: _,
-        set,
-        rounds,
-    } = reached
-    else {
-        return print_refused(rt, reach::refusal(reached));
-    };
+// The report of a table. Reach gives check's refusals. After that trim has only 12 to give, since there is room for the longest table.
+fn report_of(table: &[u8]) -> Result<Report, Refusal> {
+    let reached = reach::reach(table)?;
     let mut out = [0u8; LONGEST];
-    let trimmed = trim::trim(table, &mut out);
-    let Trimmed::Accepted(after) = trimmed else {
-        return print_refused(rt, trim::refusal(trimmed));
-    };
-    print_report(rt, table::count_in(table), after.nodes, set, rounds)
+    let written = trim::trim(table, &mut out)?;
+    Ok(Report {
+        before: table::count_in(table),
+        after: written.nodes,
+        set: reached.set,
+        rounds: reached.rounds,
+    })
 }
 
-// Reads until the buffer is full or the input ends, and gives how many bytes were read.
+// Reads until the buffer is full or the input ends, and gives how many bytes were read. Not the library's `read_to_end`: it fills a
+// vector, and so rests on three more functions of C.
 fn read_full(rt: &impl Input, buffer: &mut [u8]) -> io::Result<usize>
     ensures { IfOk result (λ count. count ≤ length buffer.new) }
 {
@@ -85,5 +66,8 @@ fn main(rt: HostRuntime) -> io::Result<()> {
     // One byte more than the longest table: check refuses it as it would refuse any more.
     let mut input = [0u8; LONGEST + 1];
     let length = read_full(&rt, &mut input)?;
-    report(&rt, &input[..length])
+    match report_of(&input[..length]) {
+        Ok(report) => println!(rt; "{report}"),
+        Err(refusal) => println!(rt; "refused {}", refusal.number()),
+    }
 }

@@ -1,11 +1,9 @@
--- `deskheron::deskheron_list` meets its contract, by cases of the answer of list.
+-- By cases of what list answers.
 use Rattle.deskheron.proofs.Entered.{refused_entered, listed_entered}
 use Rattle.deskheron.proofs.deskheron_list.Goals as goal
 
-pub returns-in_default : goal.returns-in_default
-returns-in_default c =
-    refused_entered c.list_bytes-answer.ensures c.in_default.is c.refusal.ensures
+pub returns-in-Ok : goal.returns-in-Ok
+returns-in-Ok c = listed_entered c.list_bytes.ensures c.in-Ok.is
 
-pub returns : goal.returns
-returns c =
-    listed_entered c.list_bytes-answer.ensures c.in-Listed.is
+pub returns-in-Err : goal.returns-in-Err
+returns-in-Err c = refused_entered c.list_bytes.ensures c.in-Err.is c.refused.ensures

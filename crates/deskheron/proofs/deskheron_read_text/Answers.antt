@@ -1,18 +1,18 @@
--- `deskheron::deskheron_read_text` meets its contract, by cases of the answer.
+-- By cases of what read answers.
 use mathlib.Core.Path.{◌≡◌, sym, ap, ◌∙◌}
 use lib.ListN.{length}
 use Rattle.table.specs.Outcomes.{number_of, cell_after}
 use Rattle.text.specs.Answers.{answer_outcome, read_of}
 use Rattle.deskheron.proofs.deskheron_read_text.Goals as goal
 
-pub returns-in_default : goal.returns-in_default
-unfolding cell_after answer_outcome
-returns-in_default c =
-    let e : read_of c.args.text.now (length c.args.out.now) ≡ _ = sym c.read-answer.ensures.0 ∙ ap answer_outcome c.in_default.is in
-    record { value = c.refusal.ensures ∙ ap number_of c.read-answer.ensures.0; out_after = c.read-answer.ensures.1; bytes_after = rw e }
+pub returns-in-Ok : goal.returns-in-Ok
+unfolding number_of cell_after
+returns-in-Ok c =
+    let e : read_of c.args.text.now (length c.args.out.now) ≡ _ = sym c.read.ensures.0 ∙ ap answer_outcome c.in-Ok.is in
+    record { value = rw e; out_after = c.read.ensures.1; bytes_after = rw e }
 
-pub returns : goal.returns
-unfolding number_of cell_after answer_outcome
-returns c =
-    let e : read_of c.args.text.now (length c.args.out.now) ≡ _ = sym c.read-answer.ensures.0 ∙ ap answer_outcome c.in-Written.is in
-    record { value = rw e; out_after = c.read-answer.ensures.1; bytes_after = rw e }
+pub returns-in-Err : goal.returns-in-Err
+unfolding number_of cell_after
+returns-in-Err c =
+    let e : read_of c.args.text.now (length c.args.out.now) ≡ _ = sym c.read.ensures.0 ∙ ap answer_outcome c.in-Err.is in
+    record { value = c.refused.ensures ∙ sym (ap number_of e); out_after = c.read.ensures.1; bytes_after = rw e }
