@@ -1,9 +1,9 @@
 // The operations for C: each entry returns 0 or the refusal's number, and gives its results through pointers, which a refusal
-// leaves untouched.
+// leaves untouched. The parameters are those of the C interface, so that none of them go together in a struct.
 #![tactic(auto)]
 
 ghost use Rattle.std.specs.Prelude.{◌≡◌, ◌/◌, length};
-ghost use Rattle.table.specs.Outcomes.{number_of_refusal, number_of, cell_after};
+ghost use Rattle.table.specs.Outcomes.{number_of, cell_after};
 ghost use Rattle.table.specs.Reading.{check_of};
 ghost use Rattle.reach.specs.Answers.{reach_of};
 ghost use Rattle.trim.specs.Answers.{trim_of, buffer_of};
@@ -13,7 +13,6 @@ ghost use Rattle.text.specs.Answers.{read_of, read_buffer, write_of, write_buffe
 ghost use Rattle.deskheron.specs.Answers.{ListEntered};
 
 use step::Stepped;
-use table::Refusal;
 
 // The answers of step by the numbers that C knows: one with its E, O, k and L; none; several.
 const ONE: u32 = 0;
@@ -21,13 +20,6 @@ const ONE: u32 = 0;
 const NONE: u32 = 1;
 
 const SEVERAL: u32 = 2;
-
-// What an entry returns for a refusal.
-fn refused(refusal: Refusal) -> u32
-    ensures { result ≡ number_of_refusal refusal }
-{
-    refusal.number() as u32
-}
 
 // Check: the node count of a table.
 #[unsafe(no_mangle)]
@@ -40,7 +32,7 @@ pub extern "C" fn deskheron_check(table: &[u8], nodes: &mut u32) -> u32
             *nodes = count as u32;
             0
         }
-        Err(refusal) => refused(refusal),
+        Err(refusal) => refusal.into(),
     }
 }
 
@@ -67,7 +59,7 @@ pub extern "C" fn deskheron_reach(
             *rounds = found.rounds;
             0
         }
-        Err(refusal) => refused(refusal),
+        Err(refusal) => refusal.into(),
     }
 }
 
@@ -96,7 +88,7 @@ pub extern "C" fn deskheron_trim(
             *remainder = written.share.remainder;
             0
         }
-        Err(refusal) => refused(refusal),
+        Err(refusal) => refusal.into(),
     }
 }
 
@@ -122,7 +114,7 @@ pub extern "C" fn deskheron_list(
             *count = listed;
             0
         }
-        Err(refusal) => refused(refusal),
+        Err(refusal) => refusal.into(),
     }
 }
 
@@ -171,11 +163,12 @@ pub extern "C" fn deskheron_step(
             *answer = SEVERAL;
             0
         }
-        Err(refusal) => refused(refusal),
+        Err(refusal) => refusal.into(),
     }
 }
 
-// Reads a text: its table at the front of the buffer, and the table's length.
+// Reads a text: its table at the front of the buffer, and the table's length. Each entry takes the answer of its operation apart by
+// itself: only this one and the next do the same with it, and a function of both would not be shorter.
 #[unsafe(no_mangle)]
 pub extern "C" fn deskheron_read_text(text: &[u8], out: &mut [u8], bytes: &mut usize) -> u32
     ensures value { result ≡ number_of (read_of text.now (length out.old)) }
@@ -187,7 +180,7 @@ pub extern "C" fn deskheron_read_text(text: &[u8], out: &mut [u8], bytes: &mut u
             *bytes = length;
             0
         }
-        Err(refusal) => refused(refusal),
+        Err(refusal) => refusal.into(),
     }
 }
 
@@ -203,6 +196,6 @@ pub extern "C" fn deskheron_write_text(table: &[u8], out: &mut [u8], bytes: &mut
             *bytes = count;
             0
         }
-        Err(refusal) => refused(refusal),
+        Err(refusal) => refusal.into(),
     }
 }

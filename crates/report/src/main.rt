@@ -68,6 +68,6 @@ fn main(rt: HostRuntime) -> io::Result<()> {
     let length = read_full(&rt, &mut input)?;
     match report_of(&input[..length]) {
         Ok(report) => println!(rt; "{report}"),
-        Err(refusal) => println!(rt; "refused {}", refusal.number()),
+        Err(refusal) => println!(rt; "refused {}", u32::from(refusal)),
     }
 }

@@ -1,4 +1,5 @@
-// Sets of the numbers 0 to 63, a bit each.
+// Sets of the numbers 0 to 63, a bit each. They stay numbers and get no type of their own: document 01 says that sets of labels are
+// bits, and the entries for C take and give them so.
 #![tactic(auto)]
 
 ghost use Rattle.std.specs.Prelude.{◌≡◌, ◌≢◌, true, false, ℕ, ◌%◌, ◌^◌, ◌<◌};

@@ -6,7 +6,7 @@ use native.Mathlib.Numerals.{add-one}
 use native.Mathlib.Omega.{arith}
 use lib.Bits.{bit_or, or_shifted, or_shifted_r}
 use lib.ListN.{length, get_or, take, drop, set, length-drop, take-append-drop}
-use lib.Seq.{paste, paste-suc, take-paste, drop-paste, length-paste, take-suc, take_all, drop-drop}
+use lib.Seq.{length-take-le, paste, paste-suc, take-paste, drop-paste, length-paste, take-suc, take_all, drop-drop}
 use lib.Arith.{digits_lt}
 use lib.Pow.{pow-add, shl_exact}
 use Rattle.table.specs.Bits.{bits, bytes, bytes_of, Below}
@@ -37,6 +37,15 @@ node_bits_suc l i h =
 pub gathered_none : (l : List ℕ) → Gathered (take 0 l) 0 0
 unfolding bits node_bits
 gathered_none l = record { fields = refl; small = omega arith }
+
+-- those of n nodes from a place on
+pub gathered_part : (xs : List ℕ) (from n m word : ℕ) → m ≡ n → from + n ≤ length xs
+    → Gathered (take m (drop from xs)) (length (take m (drop from xs))) word → Gathered (take n (drop from xs)) n word
+gathered_part xs from n m word e h G =
+    let rest : List ℕ = drop from xs in
+    let few : n ≤ length rest = omega (arith, length-drop from xs) in
+    subst (λ (k : ℕ). Gathered (take n rest) k word) (length-take-le n rest few)
+    (subst (λ (k : ℕ). Gathered (take k rest) (length (take k rest)) word) e G)
 
 pub gathered_more : (l : List ℕ) (i word : ℕ) → i < 4 → i < length l → Below 1024 l → Gathered (take i l) i word
     → Gathered (take (i + 1) l) (i + 1) (bit_or (word * 1024 % 18446744073709551616) (get_or l i 0))

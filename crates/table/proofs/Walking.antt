@@ -2,7 +2,7 @@
 -- at the end, at a fault, and at each shape of a kind.
 use mathlib.Core.Path.{◌≡◌, refl, sym, ap, ◌∙◌, subst}
 use mathlib.Core.Logic.{◌⊎◌, inl, inr}
-use mathlib.Core.Bool.{cond}
+use mathlib.Core.Bool.{Bool, true, false, cond}
 use mathlib.Core.List.{List, [], ◌∷◌, ◌++◌}
 use Prim.Native.Nat.{ℕ, zero, suc, ◌+◌, ◌-◌, ◌/◌, ◌%◌, ◌≤◌, ◌<◌}
 use native.Mathlib.Numerals.{add-one, sub-one}
@@ -158,9 +158,10 @@ module _ {n : ℕ} {xs : List ℕ} {left tries at used x k : ℕ} (f : At n xs l
       let (p, e) = leaf_kind (x % 64) below tries used rest k s in
       went p used w e h
 
-  pub walk_pause : k ≡ 1 → (o used' w : ℕ) → o ≡ x % 64 → used' ≡ used union only o → w ≡ fault → Goes w (at + 1) used'
+  pub walk_pause : k ≡ 1 → (o used' w : ℕ) → o ≡ x % 64 → (w ≡ 0 → used' ≡ used union only o) → w ≡ fault → Goes w (at + 1) used'
   unfolding read_kind kind_of kinds
-  walk_pause e o used' w q u h = went (Statement.pause o) used' w (rw (e, u, q)) h
+  walk_pause e o used' zero q u h = went (Statement.pause o) used' 0 (rw (e, u refl, q)) h
+  walk_pause e o used' (suc w) q u h = walk_fault (suc w) (at + 1) used' h (λ z. omega arith)
 
   -- a node with children: the only one, or the first one, which stops the walk or is followed by the second
   module _ {inside : ℕ} (p : Parent tries k inside) (z : 0 ≡ fault) where
@@ -209,3 +210,37 @@ module _ {n : ℕ} {xs : List ℕ} {left tries at used x k : ℕ} (f : At n xs l
         go : Shape (x % 64) below tries used rest k inside → Goes r at' used'
         go (one g d e) = absurd (omega arith)
         go (two g d e) = gone (with_two first (below inside) g) r at' used' (by_kind z ∙ e) (both first g refl h)
+
+-- ---- Where a walk has come to: what it comes to from here, it comes to from where it began
+pub record Onward (n : ℕ) (xs : List ℕ) (left tries at used left' tries' at' used' : ℕ) : Type 0 where
+  pub deeper : left' ≤ left
+  pub below : tries' + left' ≤ tries + left
+  pub leads : (r end labels : ℕ) → WalkedAt n xs left' tries' at' used' r end labels → WalkedAt n xs left tries at used r end labels
+
+pub onward : (n : ℕ) (xs : List ℕ) (left tries at used : ℕ) → Onward n xs left tries at used left tries at used
+onward n xs left tries at used = record { deeper = omega arith; below = omega arith; leads = λ r end labels h. h }
+
+-- a node adds one try at most around its children
+pub few : {tries k inside : ℕ} → Parent tries k inside → inside ≤ tries + 1
+few {tries} {k} p = let a = p.around in let b = small (eqb k 10) in omega arith
+  where
+    small : (b : Bool) → cond b 1 0 ≤ 1
+    small true = omega arith
+    small false = omega arith
+
+module _ {n : ℕ} {xs : List ℕ} {left₀ tries₀ at₀ used₀ left tries at used k inside : ℕ} (o : Onward n xs left₀ tries₀ at₀ used₀ left tries at used)
+    (p : Parent tries k inside) (some : 1 ≤ left) where
+  -- the depth and the tries of a child
+  pub onward_first : (left - 1 ≤ left₀) × (inside + (left - 1) ≤ tries₀ + left₀)
+  onward_first = let a = o.deeper in let b = few p in let c = o.below in (omega arith, omega arith)
+
+  -- the walk goes on over the only child of a node, or over the second, behind the first
+  module _ {x : ℕ} (f : At n xs left tries at used x k) (z : 0 ≡ fault_of left tries used x) where
+    pub onward_only : (children k ≡ 2 → ⊥) → Onward n xs left₀ tries₀ at₀ used₀ (left - 1) inside (at + 1) used
+    onward_only c =
+        record { deeper = onward_first.0; below = onward_first.1; leads = λ r end labels h. o.leads r end labels (walk_only f p z r end labels c h) }
+
+    pub onward_second : (next labels : ℕ) → children k ≡ 2 → WalkedAt n xs (left - 1) inside (at + 1) used 0 next labels
+        → Onward n xs left₀ tries₀ at₀ used₀ (left - 1) inside next labels
+    onward_second next labels c h =
+        record { deeper = onward_first.0; below = onward_first.1; leads = λ r end more j. o.leads r end more (walk_second f p z r end more 0 next labels c refl h j) }

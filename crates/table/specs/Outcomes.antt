@@ -8,7 +8,7 @@ pub data Outcome : Type 0 where
   refusal : ℕ → Outcome
   values : List ℕ → Outcome
 
--- document 01's numbers of the refusals
+-- the numbers of the refusals, those of document 01 and, from 17 on, of document 02
 abbrev pub number_of_refusal : Refusal → ℕ
 number_of_refusal Short = 1
 number_of_refusal Edition = 2

@@ -1,4 +1,4 @@
-// The node table: its kinds, reading and writing it, and check. And document 01's refusals.
+// The node table: its kinds, reading and writing it, and check. And the refusals of documents 01 and 02.
 #![tactic(auto)]
 
 mod kinds;
@@ -29,7 +29,7 @@ pub struct Row {
     pub most: u8,
 }
 
-// Why something is refused, by document 01's numbers. A pass over the nodes of a table answers `Kind` where a node is of no kind,
+// Why something is refused, by the numbers of documents 01 and 02. A pass over the nodes of a table answers `Kind` where a node is of no kind,
 // which check does not let through.
 #[derive(Clone, Copy, Debug, PartialEq, Eq)]
 pub enum Refusal {
@@ -62,10 +62,11 @@ pub enum Refusal {
     Number = 19,
 }
 
-impl Refusal {
-    pub fn number(self) -> u8
-        ensures { result ≡ number_of_refusal self }
-    {
-        self as u8
+// Its number.
+impl From<Refusal> for u32 {
+    ghost from_gives = { λ refusal number. number ≡ number_of_refusal refusal };
+
+    fn from(refusal: Refusal) -> u32 {
+        refusal as u32
     }
 }

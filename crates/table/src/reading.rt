@@ -1,6 +1,7 @@
-// Reading a table: the header, the nodes out of the bytes, the statement out of the nodes. And check.
+// Reading a table: the header, the nodes out of the bytes, the statement out of the nodes. And check. Words and fields are cut by
+// shifts and masks, here and in kinds.rt, as document 01 asks.
 ghost use Rattle.std.specs.Prelude.{◌≡◌, cond, ◌++◌, ◌+◌, ◌-◌, ◌/◌, ◌%◌, ◌^◌, ◌≤◌, ◌<◌, eqb, ltb, length, take, drop};
-ghost use Rattle.sets.specs.Set.{has};
+ghost use Rattle.sets.specs.Set.{has, only, ◌union◌};
 ghost use Rattle.table.specs.Reading.{length_of, count_of, header_of, nodes_of, read_from, deepest, whole_of, checked_outcome, check_in, check_of};
 ghost use Rattle.table.specs.inner.Loading.{word_at, Cut, loaded_of, field_fault, number_found, Walked};
 
@@ -21,7 +22,7 @@ fn word_at(table: &[u8], at: usize) -> u16
     (table[at] as u16) << 8 | table[at + 1] as u16
 }
 
-// "12 bits node count N", whether or not the table is accepted; 0 where there are no two bytes.
+// "12 bits node count N", whether or not the table is accepted; 0 where there are no two bytes: it cannot fail.
 pub fn count_in(table: &[u8]) -> u16
     ensures { result ≡ cond (ltb (length table.now) 2) 0 (count_of table.now) }
 {
@@ -153,6 +154,19 @@ struct Walk {
 }
 
 impl Walk {
+    // A pause: its label is among those that are used from now on. That it is below 64 is asked, since a narrower `Label` would ask it of
+    // all who make one.
+    fn pause(&mut self, label: Label) -> Result<(), Refusal>
+        requires { label.0 < 64 }
+        ensures found { number_found result ≡ cond (has self.old.used label.0) 10 0 }
+        ensures at { self.new.at ≡ self.old.at }
+        ensures used { number_found result ≡ 0 → self.new.used ≡ self.old.used union only label.0 }
+    {
+        test_label(label, self.used)?;
+        self.used = sets::with(self.used, label.0);
+        Ok(())
+    }
+
     // Walks over the statement at the place that it came to, one of the first n, with all below it, inside `tries` try statements;
     // `left` is the depth that is left, that node's included.
     fn statement(
@@ -165,43 +179,48 @@ impl Walk {
         requires { (n ≤ 1024) × (tries + left < 255) }
         ensures { Walked n (read_from left tries self.old.used (drop self.old.at (take n nodes.now))) (number_found result) self.new.at self.new.used }
     {
-        let here = self.at;
-        if n <= here {
-            return Err(Refusal::Shape);
-        }
-        let node = nodes[here];
-        let kind = kind_of(node);
-        let operand = operand_of(node);
-        let row = row_of(kind);
-        let fields = test_fields(operand, row, left);
-        self.at = here + 1;
-        let inside = match kind {
-            NOTHING => return fields,
-            PAUSE => {
-                fields?;
-                let label = Label(operand);
-                test_label(label, self.used)?;
-                self.used = sets::with(self.used, label.0);
-                return Ok(());
+        let mut left = left;
+        let mut tries = tries;
+        // Each round is at a node: the last child is that of the next round, and only the first of two takes a call. No `for`, since
+        // whether there is a next round is known when this node is read.
+        loop {
+            let here = self.at;
+            if n <= here {
+                return Err(Refusal::Shape);
             }
-            GOTOPAUSE..=EMIT => return fields,
-            EXIT => {
-                fields?;
-                return test_level(Level(operand), tries);
+            let node = nodes[here];
+            let kind = kind_of(node);
+            let operand = operand_of(node);
+            let row = row_of(kind);
+            let fields = test_fields(operand, row, left);
+            self.at = here + 1;
+            // One decision over the kinds' numbers, with a refused range, as document 01 asks.
+            match kind {
+                NOTHING => return fields,
+                PAUSE => {
+                    fields?;
+                    return self.pause(Label(operand));
+                }
+                GOTOPAUSE..=EMIT => return fields,
+                EXIT => {
+                    fields?;
+                    return test_level(Level(operand), tries);
+                }
+                SIGNAL..=TRY => fields?,
+                11..=15 => return Err(Refusal::Kind),
+                _ => return Err(Refusal::Kind),
             }
-            SIGNAL..=TRY => tries + tried(kind),
-            11..=15 => return Err(Refusal::Kind),
-            _ => return Err(Refusal::Kind),
-        };
-        fields?;
-        if row.children == 2 {
-            self.statement(nodes, n, left - 1, inside)?;
+            left -= 1;
+            tries += tried(kind);
+            if row.children == 2 {
+                self.statement(nodes, n, left, tries)?;
+            }
         }
-        self.statement(nodes, n, left - 1, inside)
     }
 }
 
-// Tests 6 to 11, on the nodes from one place to another.
+// Tests 6 to 11, on the nodes from one place to another: two places of an array, since a slice goes through memory at every call of the
+// walk.
 pub fn check_nodes(nodes: &[u16; MOST_NODES], from: usize, to: usize) -> Result<u16, Refusal>
     requires { (from ≤ to) × (to ≤ 1024) }
     ensures { checked_outcome result ≡ check_in (whole_of (to - from) (read_from deepest 0 0 (drop from (take to nodes.now)))) }
@@ -224,7 +243,7 @@ pub fn load(table: &[u8], nodes: &mut [u16; MOST_NODES]) -> Result<u16, Refusal>
     check_nodes(nodes, 0, n)
 }
 
-// Whether the bytes are a table: the number of the refusal, or the node count.
+// Whether the bytes are a table: its node count, or the refusal.
 pub fn check(table: &[u8]) -> Result<u16, Refusal>
     ensures { checked_outcome result ≡ check_of table.now }
 {

@@ -28,7 +28,8 @@ pub fn node_of(kind: u16, operand: u8) -> u16
     kind << 6 | in_range(row, operand) as u16
 }
 
-// The byte that stands `shift` bits up in a word.
+// The byte that stands `shift` bits up in a word. By shifts and masks, as document 01 asks; `to_be_bytes` would give all eight, of
+// which the five of four nodes are wanted, or two.
 fn byte_of(word: u64, shift: usize) -> u8
     requires { shift < 64 }
     ensures { result ≡ word / 2 ^ shift % 256 }
@@ -46,13 +47,13 @@ pub fn put_bytes(out: &mut [u8], at: usize, word: u64, count: usize)
     }
 }
 
-// The nodes of a part as one number, 10 bits each, the first in the highest bits.
-fn gather(nodes: &[u16], from: usize, count: usize) -> u64
-    requires { (count ≤ 4) × (from + count ≤ length nodes.now) × Below 1024 nodes.now }
-    ensures { Gathered (take count (drop from nodes.now)) count result }
+// At most four nodes as one number, 10 bits each, the first in the highest bits.
+fn gather(nodes: &[u16]) -> u64
+    requires { (length nodes.now ≤ 4) × Below 1024 nodes.now }
+    ensures { Gathered nodes.now (length nodes.now) result }
 {
     let mut word: u64 = 0;
-    for node in &nodes[from..from + count] {
+    for node in nodes {
         word = word << 10 | *node as u64;
     }
     word
@@ -76,13 +77,13 @@ pub fn write_nodes(nodes: &[u16], out: &mut [u8]) -> usize
     put_bytes(out, 0, count as u64 | EDITION << 12, 2);
     let fours = count / 4;
     for four in 0..fours {
-        let word = gather(nodes, 4 * four, 4);
+        let word = gather(&nodes[4 * four..4 * four + 4]);
         put_bytes(out, 2 + 5 * four, word, 5);
     }
     let left = count % 4;
     let at = 2 + 5 * fours;
     let size = total - at;
-    let word = gather(nodes, count - left, left);
+    let word = gather(&nodes[count - left..]);
     put_bytes(out, at, word << (8 * size - 10 * left), size);
     total
 }

@@ -14,4 +14,4 @@ pub returns-in-Err : goal.returns-in-Err
 unfolding number_of cell_after
 returns-in-Err c =
     let e : check_of c.args.table.now ≡ _ = sym c.check.ensures ∙ ap checked_outcome c.in-Err.is in
-    record { value = c.refused.ensures ∙ sym (ap number_of e); nodes_after = rw e }
+    record { value = c.into.ensures ∙ sym (ap number_of e); nodes_after = rw e }

@@ -6,4 +6,4 @@ pub returns-in-Ok : goal.returns-in-Ok
 returns-in-Ok c = listed_entered c.list_bytes.ensures c.in-Ok.is
 
 pub returns-in-Err : goal.returns-in-Err
-returns-in-Err c = refused_entered c.list_bytes.ensures c.in-Err.is c.refused.ensures
+returns-in-Err c = refused_entered c.list_bytes.ensures c.in-Err.is c.into.ensures

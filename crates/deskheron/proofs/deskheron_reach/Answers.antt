@@ -15,4 +15,4 @@ pub returns-in-Err : goal.returns-in-Err
 unfolding number_of cell_after
 returns-in-Err c =
     let e : reach_of c.args.table.now ≡ _ = sym c.reach.ensures ∙ ap reached_outcome c.in-Err.is in
-    record { value = c.refused.ensures ∙ sym (ap number_of e); start_ends_after = rw e; start_labels_after = rw e; reached_after = rw e; rounds_after = rw e }
+    record { value = c.into.ensures ∙ sym (ap number_of e); start_ends_after = rw e; start_labels_after = rw e; reached_after = rw e; rounds_after = rw e }

@@ -15,4 +15,4 @@ pub returns-in-Err : goal.returns-in-Err
 unfolding number_of cell_after
 returns-in-Err c =
     let e : read_of c.args.text.now (length c.args.out.now) ≡ _ = sym c.read.ensures.0 ∙ ap answer_outcome c.in-Err.is in
-    record { value = c.refused.ensures ∙ sym (ap number_of e); out_after = c.read.ensures.1; bytes_after = rw e }
+    record { value = c.into.ensures ∙ sym (ap number_of e); out_after = c.read.ensures.1; bytes_after = rw e }

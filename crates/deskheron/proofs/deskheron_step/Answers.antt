@@ -27,4 +27,4 @@ pub returns-in-Err : goal.returns-in-Err
 unfolding number_of cell_after
 returns-in-Err c =
     let e : step_of c.args.table.now c.args.provided c.args.mark c.args.labels ≡ _ = sym c.step.ensures ∙ ap stepped_outcome c.in-Err.is in
-    record { value = c.refused.ensures ∙ sym (ap number_of e); answer_after = rw e; assumed_after = rw e; emitted_after = rw e; code_after = rw e; reached_after = rw e }
+    record { value = c.into.ensures ∙ sym (ap number_of e); answer_after = rw e; assumed_after = rw e; emitted_after = rw e; code_after = rw e; reached_after = rw e }

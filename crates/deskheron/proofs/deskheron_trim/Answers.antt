@@ -15,4 +15,4 @@ pub returns-in-Err : goal.returns-in-Err
 unfolding number_of cell_after trimmed_outcome
 returns-in-Err c =
     let e : trim_of c.args.table.now (length c.args.out.now) ≡ _ = sym c.trim.ensures.0 ∙ ap trimmed_outcome c.in-Err.is in
-    record { value = c.refused.ensures ∙ sym (ap number_of e); out_after = c.trim.ensures.1; nodes_after = rw e; bytes_after = rw e; thousandths_after = rw e; remainder_after = rw e }
+    record { value = c.into.ensures ∙ sym (ap number_of e); out_after = c.trim.ensures.1; nodes_after = rw e; bytes_after = rw e; thousandths_after = rw e; remainder_after = rw e }

@@ -1,7 +1,7 @@
 -- The word holds the nodes before the place.
-use lib.ListN.{take, drop}
+use lib.ListN.{take}
 use Rattle.table.specs.inner.Making.{Gathered}
 use Rattle.table.proofs.writing.gather.Given as goal
 
 abbrev pub invariant-loop-node : goal.invariant-loop-node
-invariant-loop-node l = Gathered (take l.node-index (drop l.from l.nodes)) l.node-index l.word
+invariant-loop-node l = Gathered (take l.node-index l.nodes) l.node-index l.word
