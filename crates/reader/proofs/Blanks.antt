@@ -13,7 +13,8 @@ use Rattle.text.specs.Parts.{Part}
 use Rattle.text.specs.Spelling.{last_of}
 use Rattle.text.specs.inner.Lexer.{Class, letter, blank, semi, bar, opens, closes, other, class_of, at, spaced, flushed, keep_letter, add_blank, take as takes, lex, finished, rest}
 use Rattle.text.proofs.Lexer.{class_blank, lex_append}
-use Rattle.reader.specs.inner.Ending.{blank_byte, Skipped}
+use Rattle.reader.specs.inner.Ending.{Skipped}
+use Rattle.reader.specs.inner.Blanks.{blank_byte}
 use Rattle.reader.proofs.Bytes.{last_apart}
 
 -- ---- One blank
@@ -81,4 +82,4 @@ module _ (u v : List ℕ) (p : Passing u v) where
       }
 
   pub skipped_to : blank_byte (last_of v) ≡ false → Skipped u v
-  skipped_to e = record { below = p.below; begins = p.begins; first = p.first; solid = e; goes_on = p.goes_on }
+  skipped_to e = record { below = p.below; begins = p.begins; solid = e; goes_on = p.goes_on }

@@ -2,6 +2,7 @@
 use Prim.Native.Nat.{ℕ, suc, ◌+◌, ◌-◌, ◌≤◌, ◌<◌}
 use mathlib.Core.Path.{◌≡◌, refl, sym, ap, ◌∙◌}
 use mathlib.Core.Bool.{true, false}
+use mathlib.Core.Logic.{◌≢◌}
 use mathlib.Core.List.{List, [], ◌∷◌, ◌++◌}
 use native.Mathlib.Omega.{arith}
 use denote.Ref.{Bor}
@@ -14,7 +15,7 @@ use Rattle.std.proofs.lemmas.Slice.Eq.{strip_suffix_is}
 use Rattle.std.proofs.lemmas.Bool.Decides.{Decides-eqb}
 use Rattle.text.specs.Spelling.{last_of}
 use Rattle.text.proofs.Spelling.{last_append}
-use Rattle.reader.specs.inner.Ending.{blank_byte}
+use Rattle.reader.specs.inner.Blanks.{blank_byte}
 
 -- ---- The last byte
 
@@ -34,6 +35,19 @@ pub last_none : (u : List ℕ) → length u < 1 → 0 ≡ last_of u
 unfolding last_of
 last_none [] h = refl
 last_none (b ∷ u) h = absurd (omega arith)
+
+pub last_is : (u : List ℕ) {b : ℕ} → 1 ≤ length u → get_or u (length u - 1) 0 ≡ b → last_of u ≡ b
+last_is u h e = sym (last_at u h) ∙ e
+
+-- a text that ends in a byte has one
+pub last_some : (u : List ℕ) {b : ℕ} → 1 ≤ b → last_of u ≡ b → 1 ≤ length u
+last_some [] h e = let z : 0 ≡ last_of [] = last_none [] (omega arith) in absurd (omega arith)
+last_some (a ∷ u) h e = omega arith
+
+-- it is none that no text ends in
+pub last_other : (u : List ℕ) (b : ℕ) → 1 ≤ b → (1 ≤ length u → get_or u (length u - 1) 0 ≢ b) → last_of u ≢ b
+last_other [] b h f e = let z : 0 ≡ last_of [] = last_none [] (omega arith) in omega arith
+last_other (a ∷ u) b h f e = f (omega arith) (last_at (a ∷ u) (omega arith) ∙ e)
 
 pub no_blank : (u : List ℕ) → length u < 1 → false ≡ blank_byte (get_or u 0 0)
 unfolding blank_byte

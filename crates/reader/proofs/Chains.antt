@@ -6,10 +6,10 @@ use mathlib.Core.Bool.{Bool}
 use mathlib.Core.List.{List, [], ◌∷◌, ◌++◌}
 use native.Mathlib.Omega.{arith}
 use lib.ListN.{length}
-use denote.Ref.{Bor}
 use Rattle.std.specs.Prelude.{None}
 use Rattle.std.specs.Prelude as std
 use Rattle.sets.proofs.Booleans.{clash}
+use Rattle.reader.specs.declared.lexing.Rest.{Rest}
 use Rattle.reader.specs.declared.moves.Reader.{Reader}
 use Rattle.reader.specs.declared.moves.Room.{Room}
 use Rattle.reader.specs.declared.frames.Frame.{Frame}
@@ -17,9 +17,9 @@ use Rattle.text.specs.Parts.{In, Then, Else, Loop, Try, Part, word, semicolon, b
 use Rattle.text.specs.Spelling.{letters_of, spelling, first_of, last_of}
 use Rattle.text.specs.inner.Lexer.{is_letter}
 use Rattle.reader.specs.inner.Ending.{Ending, Words}
-use Rattle.reader.specs.inner.Nodes.{Kept, Frames, Work, failed, met, aside, work_met, work}
+use Rattle.reader.specs.inner.Nodes.{Kept, put_on, Frames, Work, failed, met, aside, end_frame, work_met, work}
 use Rattle.reader.specs.inner.Kept.{Stored}
-use Rattle.reader.specs.inner.Held.{Doomed, Moved, Took, Chained, Ready, stack_at, nodes_of, whole_reader, met_state}
+use Rattle.reader.specs.inner.Held.{Doomed, Moved, Took, Chained, Ready, stack_at, stack_of, nodes_of, whole_reader, met_state}
 use Rattle.reader.proofs.Moving.{moved_as}
 use Rattle.reader.proofs.Taking.{doomed}
 use Rattle.reader.proofs.Suiting.{met_failed}
@@ -43,6 +43,15 @@ unfolding spelling letters_of last_of
 met_by {t = t} E l n b K B ins thens elses loops tries joins bared opens =
     met_failed n b K B t (λ e. ins (sym l ∙ last_of_lem E _ e) e) (λ e. thens (sym l ∙ last_of_lem E _ e) e) (λ e. elses (sym l ∙ last_of_lem E _ e) e) (λ e. loops (sym l ∙ last_of_lem E _ e) e)
     (λ e. tries (sym l ∙ last_of_lem E _ e) e) (λ e. joins (sym l ∙ last_of_lem E _ e) e) (λ e. bared (sym l ∙ last_of_lem E _ e) e) (λ e. opens (sym l ∙ last_of_lem E _ e) e)
+
+-- a byte that ends no such part but `;`
+pub record Unmet (c : ℕ) : Type 0 where
+  pub heads : c ≢ 110
+  pub elses : c ≢ 101
+  pub loops : c ≢ 112
+  pub tries : c ≢ 121
+  pub bars : c ≢ 124
+  pub opens : c ≢ 91
 
 module _ (u : List ℕ) (some : 1 ≤ length u) (n : ℕ) (b : Bool) (K : Frames) (B : Kept) where
   met_doomed : ((v : List ℕ) (t : Part) → Ending u v t → work_met n b K B t ≡ failed) → Doomed u (met n b K B)
@@ -80,10 +89,11 @@ module _ (u : List ℕ) (some : 1 ≤ length u) (n : ℕ) (b : Bool) (K : Frames
       (λ c. absurd (omega arith)) (λ c. absurd (omega arith)))
 
   -- a byte that ends no such part
-  pub no_chain : {c : ℕ} → last_of u ≡ c → c ≢ 110 → c ≢ 101 → c ≢ 112 → c ≢ 121 → c ≢ 59 → c ≢ 124 → c ≢ 91 → Doomed u (met n b K B)
-  no_chain l heads elses loops tries joins bared opens =
+  pub no_chain : {c : ℕ} → last_of u ≡ c → Unmet c → c ≢ 59 → Doomed u (met n b K B)
+  no_chain l N joins =
       met_doomed
-      (λ v t E. met_by E l n b K B (λ c. absurd (heads c)) (λ c. absurd (heads c)) (λ c. absurd (elses c)) (λ c. absurd (loops c)) (λ c. absurd (tries c)) (λ c. absurd (joins c)) (λ c. absurd (bared c)) (λ c. absurd (opens c)))
+      (λ v t E. met_by E l n b K B (λ c. absurd (N.heads c)) (λ c. absurd (N.heads c)) (λ c. absurd (N.elses c)) (λ c. absurd (N.loops c)) (λ c. absurd (N.tries c)) (λ c. absurd (joins c)) (λ c. absurd (N.bars c))
+      (λ c. absurd (N.opens c)))
 
 -- ---- What the chain is that was met, where the reader holds its nodes with that of the `||` behind it
 
@@ -93,6 +103,14 @@ moved_aside F b B e M = moved_as M (ap F (sym e))
 
 pub failed_aside : (F : Kept → Work) (b : Bool) (B : Kept) {C : Kept} → aside b B ≡ C → F C ≡ failed → F (aside b B) ≡ failed
 failed_aside F b B e f = ap F e ∙ f
+
+-- the same, where the node of a `loop` or a `try` is put before them
+module _ (r : Reader) (m : Room) {x v : ℕ} (is : v ≡ x) (b : Bool) (B : Kept) (e : aside b B ≡ nodes_of r m) where
+  pub moved_body : {s : Reader} {q : Room} → Moved r s q (end_frame r.left (put_on v (nodes_of r m)) (stack_of r m)) → Moved r s q (end_frame r.left (put_on x (aside b B)) (stack_of r m))
+  moved_body M = moved_aside (λ (A : Kept). end_frame r.left (put_on x A) (stack_of r m)) b B e (rw is at M)
+
+  pub failed_body : end_frame r.left (put_on v (nodes_of r m)) (stack_of r m) ≡ failed → end_frame r.left (put_on x (aside b B)) (stack_of r m) ≡ failed
+  failed_body f = failed_aside (λ (A : Kept). end_frame r.left (put_on x A) (stack_of r m)) b B e (rw is at f)
 
 -- w is the reader r with its nodes and that of the `||` behind it
 whole_left : (r w : Reader) → w ≡ whole_reader r w.count → w.left ≡ r.left
@@ -107,7 +125,7 @@ whole_ready {r} {w} R e S f =
       nodes = S.filled;
     }
 
-pub took_whole : (u : List ℕ) (r w : Reader) (m q : Room) → w ≡ whole_reader r w.count → Stored w.count q.nodes (aside r.beside (nodes_of r m)) → q.frames ≡ m.frames → (o : std.Option (Bor (List ℕ) × Reader)) (p : Room)
+pub took_whole : (u : List ℕ) (r w : Reader) (m q : Room) → w ≡ whole_reader r w.count → Stored w.count q.nodes (aside r.beside (nodes_of r m)) → q.frames ≡ m.frames → (o : std.Option (Rest × Reader)) (p : Room)
     → Chained w q (λ x. Took u x w.ranged o p) → Took u (met_state r m) r.ranged o p
 unfolding met_state
 took_whole u r w m q e S f o p took_it =

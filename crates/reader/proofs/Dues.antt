@@ -1,12 +1,12 @@
 -- Where a statement is due: what taking its last part comes to, for each last byte and each test of the lexer.
-use Prim.Native.Nat.{ℕ, ◌<◌}
+use Prim.Native.Nat.{ℕ, ◌-◌, ◌≤◌}
 use mathlib.Core.Path.{◌≡◌, refl, sym, ap, ◌∙◌, subst}
 use mathlib.Core.Logic.{◌≢◌}
-use mathlib.Core.Bool.{Bool, true, false, and-false}
+use mathlib.Core.Bool.{Bool, true, false}
 use mathlib.Core.List.{List}
 use native.Mathlib.Omega.{arith}
 use Rattle.std.specs.Prelude.{None}
-use borrow.Author.Tests.{lt-leb}
+use lib.ListN.{length, get_or}
 use Rattle.sets.proofs.Booleans.{clash}
 use Rattle.text.specs.Parts.{Nothing, Gotopause, Emit, Exit, End, Present, Part, word, number, signal_of, pause_at, closing}
 use Rattle.text.specs.Spelling.{letters_of, spelling, last_of}
@@ -14,6 +14,8 @@ use Rattle.text.specs.inner.Lexer.{is_digit}
 use Rattle.reader.specs.inner.Ending.{Ending, Words}
 use Rattle.reader.specs.inner.Nodes.{Kept, Frames, failed, due, numbered, named, work_due, work, made}
 use Rattle.reader.specs.inner.Held.{Doomed}
+use Rattle.reader.proofs.Bytes.{last_other}
+use Rattle.reader.proofs.Numbers.{undigit}
 use Rattle.reader.proofs.Numerals.{last_pause}
 use Rattle.reader.proofs.Taking.{doomed}
 use Rattle.reader.proofs.Suiting.{due_failed, numbered_failed, named_failed}
@@ -29,16 +31,6 @@ module _ {u v : List ℕ} {t : Part} (E : Ending u v t) {c : ℕ} (l : last_of u
       due_failed n a b K B t (λ e. nothing (sym l ∙ last_of_lem E _ e) e) (λ e. ending (sym l ∙ last_of_lem E _ e) e) (λ m e. numbers (ap is_digit (sym l) ∙ last_numbered E m e) m e)
       (λ m e. signals (ap is_digit (sym l) ∙ last_named E m e) m e) (λ m e. pauses (sym l ∙ last_of_lem E _ e ∙ last_pause m) m e) (λ e. closes (sym l ∙ last_of_lem E _ e) e)
 
--- ---- Bytes that are no digits
-
-pub below_digits : (c : ℕ) → c < 48 → is_digit c ≡ false
-unfolding is_digit
-below_digits c h = rw (lt-leb 48 c h)
-
-pub above_digits : (c : ℕ) → 57 < c → is_digit c ≡ false
-unfolding is_digit
-above_digits c h = rw (lt-leb c 57 h, and-false)
-
 -- ---- A number or a signal was taken
 
 module _ (u : List ℕ) (n k : ℕ) (a b : Bool) (K : Frames) (B : Kept) where
@@ -52,15 +44,26 @@ module _ (u : List ℕ) (n k : ℕ) (a b : Bool) (K : Frames) (B : Kept) where
 
 -- ---- The last part of a statement
 
+-- a byte that ends no statement
+pub record Undue (b : ℕ) : Type 0 where
+  pub digits : 48 ≤ b → b ≤ 57 → ⊥
+  pub nothing : b ≢ 103
+  pub pause : b ≢ 101
+  pub ends : b ≢ 100
+  pub closes : b ≢ 93
+
 module _ (u : List ℕ) (n : ℕ) (a b : Bool) (K : Frames) (B : Kept) where
   due_doomed : ((v : List ℕ) (t : Part) → Ending u v t → work_due n a b K B t ≡ failed) → Doomed u (due n a b K B)
   unfolding made work
   due_doomed none-suits = doomed u (due n a b K B) (λ e. refl) none-suits
 
   -- a byte that ends no such part
-  pub no_part : is_digit (last_of u) ≡ false → last_of u ≢ 103 → last_of u ≢ 101 → last_of u ≢ 100 → last_of u ≢ 93 → Doomed u (due n a b K B)
-  no_part d g e h i =
-      due_doomed (λ v t E. due_by E refl a b K B n (λ c. absurd (g c)) (λ c. absurd (h c)) (λ c. clash c d) (λ c. clash c d) (λ c. absurd (e c)) (λ c. absurd (i c)))
+  pub no_part : (1 ≤ length u → Undue (get_or u (length u - 1) 0)) → Doomed u (due n a b K B)
+  no_part f =
+      let d = undigit u (λ l. (f l).digits) in
+      due_doomed
+      (λ v t E. due_by E refl a b K B n (λ c. absurd (last_other u _ (omega arith) (λ l. (f l).nothing) c)) (λ c. absurd (last_other u _ (omega arith) (λ l. (f l).ends) c)) (λ c. clash c d) (λ c. clash c d)
+      (λ c. absurd (last_other u _ (omega arith) (λ l. (f l).pause) c)) (λ c. absurd (last_other u _ (omega arith) (λ l. (f l).closes) c)))
 
   pub no_nothing : last_of u ≡ 103 → Words u (letters_of Nothing) None → Doomed u (due n a b K B)
   unfolding is_digit

@@ -13,7 +13,8 @@ use Rattle.text.specs.inner.Lexer.{is_letter, part_of, Class, letter, blank, sem
 use Rattle.text.proofs.Decimal.{worded, Letters}
 use Rattle.text.proofs.Spelling.{part_spelt, letters_part, nonempty_part, last_append}
 use Rattle.text.proofs.Lexer.{Says, says, lex_append, flushed_letters, letters_run, at_letters, no_parts}
-use Rattle.reader.specs.inner.Ending.{Ending, blank_byte}
+use Rattle.reader.specs.inner.Ending.{Ending}
+use Rattle.reader.specs.inner.Blanks.{blank_byte}
 
 -- ---- Behind a byte that is no letter
 

@@ -3,10 +3,10 @@ use Prim.Native.Nat.{ℕ}
 use mathlib.Core.Path.{◌≡◌, sym, ap, ◌∙◌, subst}
 use mathlib.Core.Bool.{Bool, true, false, ◌&&◌, and-true}
 use mathlib.Core.List.{List, [], ◌∷◌, ◌++◌}
-use denote.Ref.{Bor}
 use Rattle.std.specs.Prelude.{None}
 use Rattle.std.specs.Prelude as std
 use Rattle.sets.proofs.Booleans.{clash}
+use Rattle.reader.specs.declared.lexing.Rest.{Rest}
 use Rattle.reader.specs.declared.moves.Reader.{Reader}
 use Rattle.reader.specs.declared.moves.Room.{Room}
 use Rattle.table.specs.inner.Making.{node_of}
@@ -19,7 +19,7 @@ use Rattle.reader.specs.inner.Nodes.{part_ranged, all_ranged, Kept, Frames, due,
 use Rattle.reader.specs.inner.Held.{Doomed, Moved, Took}
 use Rattle.reader.proofs.Endings.{ending_rest}
 use Rattle.reader.proofs.Numerals.{number_ending, ending_none, ending_number, no_signal, ending_mark, pause_ending, ending_pause}
-use Rattle.reader.proofs.Places.{front_ending, front_number, front_skipped, same_front}
+use Rattle.reader.proofs.Places.{ending_shorter, number_shorter, skipped_shorter, same_front}
 use Rattle.reader.proofs.Taking.{Goes, took, took_behind}
 use Rattle.reader.proofs.Dues.{no_digits, no_pause}
 use Rattle.reader.proofs.Ranges.{signal_ranged_lem, number_ranged, pause_ranged}
@@ -34,18 +34,18 @@ module _ (u : List ℕ) (n : ℕ) (a b : Bool) (K : Frames) (B : Kept) where
     number_touched v N W l =
         no_digits u n a b K B d (λ w m E. clash l (ending_number u v w m E N).2) (λ w m E. W w (ending_mark u v N w m E).0)
 
-  module _ (o : std.Option (Bor (List ℕ) × Reader)) (m : Room) where
+  module _ (o : std.Option (Rest × Reader)) (m : Room) where
     pub number_taken : (v w : List ℕ) (ranged mid : Bool) {value : ℕ} {z : Bool} → Number u v value → is_letter (last_of v) ≡ false → Skipped v w → z ≡ label_ranged value → mid ≡ (ranged && z) → Took w (numbered n value a b K B) mid o m
         → Took u (due n a b K B) ranged o m
     unfolding work work_due part_ranged
     number_taken v w ranged mid N clear S value-ranged within T =
-        took_behind u w (number N.number) (due n a b K B) ranged mid (λ ts. ending_rest _ _ (number N.number) ts (number_ending N clear) ∙ S.goes_on (number N.number) ts) (front_skipped (front_number u v N) S)
+        took_behind u w (number N.number) (due n a b K B) ranged mid (λ ts. ending_rest _ _ (number N.number) ts (number_ending N clear) ∙ S.goes_on (number N.number) ts) (skipped_shorter u (number_shorter u v N) S)
         (within ∙ number_ranged ranged N.number N.held value-ranged) S.solid o m (subst (λ (k : ℕ). Took w (numbered n k a b K B) mid o m) (sym N.held) T)
 
     pub signal_taken : (v w : List ℕ) (ranged mid : Bool) {value : ℕ} {z : Bool} → Signal u v value → Skipped v w → z ≡ signal_ranged value → mid ≡ (ranged && z) → Took w (named n value a b K B) mid o m → Took u (due n a b K B) ranged o m
     unfolding work work_due part_ranged
     signal_taken v w ranged mid N S value-ranged within T =
-        took_behind u w (signal_of N.number) (due n a b K B) ranged mid (λ ts. ending_rest _ _ (signal_of N.number) ts N.there ∙ S.goes_on (signal_of N.number) ts) (front_skipped (front_ending u v (signal_of N.number) N.there) S)
+        took_behind u w (signal_of N.number) (due n a b K B) ranged mid (λ ts. ending_rest _ _ (signal_of N.number) ts N.there ∙ S.goes_on (signal_of N.number) ts) (skipped_shorter u (ending_shorter u v (signal_of N.number) N.there) S)
         (within ∙ signal_ranged_lem ranged N.number N.held value-ranged) S.solid o m (subst (λ (k : ℕ). Took w (named n k a b K B) mid o m) (sym N.held) T)
 
   -- ---- A pause
@@ -71,4 +71,4 @@ module _ (u : List ℕ) (n : ℕ) (a b : Bool) (K : Frames) (B : Kept) where
             let E = pause_ending colon N clear in
             took u w (due n a b K B) (pause_at N.number) [] (λ ts. ending_rest _ _ (pause_at N.number) ts E)
             (within ∙ pause_ranged ranged N.number N.held value-ranged ∙ ap (λ (z : Bool). z && ranged) (sym (and-true (label_ranged N.number))))
-            (front_ending u w (pause_at N.number) E) (subst (λ (k : ℕ). Moved r s m (single n a b K (put_on (node_of 1 k) B))) (sym N.held) moved)
+            (ending_shorter u w (pause_at N.number) E) (subst (λ (k : ℕ). Moved r s m (single n a b K (put_on (node_of 1 k) B))) (sym N.held) moved)

@@ -3,6 +3,7 @@ use Prim.Native.Nat.{ℕ, ◌≤◌}
 use mathlib.Core.Path.{◌≡◌, refl, sym, ap, ◌∙◌, subst}
 use mathlib.Core.Bool.{Bool, ◌&&◌}
 use mathlib.Core.List.{List, [], ◌∷◌}
+use native.Mathlib.Omega.{arith}
 use Rattle.std.specs.Prelude.{None}
 use Rattle.table.specs.inner.Making.{node_of}
 use Rattle.reader.specs.declared.moves.Reader.{Reader}
@@ -17,7 +18,7 @@ use Rattle.reader.specs.inner.Nodes.{clip, clip_part, Kept, put_on, Frames, bott
 use Rattle.reader.specs.inner.Held.{Doomed, Awaits, Heading, Headings, Moved}
 use Rattle.reader.proofs.Endings.{ending_rest}
 use Rattle.reader.proofs.Working.{clip_work}
-use Rattle.reader.proofs.Places.{front_ending, front_skipped, front_front}
+use Rattle.reader.proofs.Places.{ending_shorter, skipped_shorter}
 use Rattle.reader.proofs.Taking.{doomed, doomed_behind, doomed_parts, Goes, took}
 use Rattle.reader.proofs.Suiting.{heading_failed, declared_failed, tested_failed}
 use Rattle.reader.proofs.Parting.{word_ending, no_word}
@@ -38,8 +39,9 @@ module _ (u v q : List ℕ) (w : Word) {value : ℕ} (S : Signal u v value) (K :
   pub heading_there : (p : List ℕ) → Worded q (letters_of w) p → Heading u p w value
   heading_there p W =
       let E = word_ending w W in
-      let F = front_front (front_skipped (front_ending u v (signal_of S.number) S.there) K) (front_ending q p (word w) E) in
-      record { number = S.number; held = S.held; goes_on = λ ts. signal_goes_on ts ∙ ending_rest _ _ _ _ E; shorter = F.shorter; first = F.first }
+      let front = skipped_shorter u (ending_shorter u v (signal_of S.number) S.there) K in
+      let word = ending_shorter q p (word w) E in
+      record { number = S.number; held = S.held; goes_on = λ ts. signal_goes_on ts ∙ ending_rest _ _ _ _ E; shorter = omega arith }
 
 pub value_most : {u v : List ℕ} (w : Word) {value : ℕ} → Heading u v w value → value ≤ 100
 value_most w H = subst (λ (v : ℕ). v ≤ 100) H.held (held_most H.number)
@@ -98,7 +100,7 @@ module _ (w' w : Word) {u v q : List ℕ} (W : Worded u (letters_of w') v) (K : 
     took_heading : {ranged z : Bool} → z ≡ signal_ranged value → {r s : Reader} {m : Room} → r.ranged ≡ (ranged && z) → Moved r s m (work_all (word w ∷ signal_of H.number ∷ word w' ∷ []) x) → Goes u p x ranged s m
     took_heading {ranged} e within M =
         took u p x (word w) (signal_of H.number ∷ word w' ∷ []) heading_goes (within ∙ heading_ranged ranged H.number H.held w w' e)
-        (front_front (front_skipped (front_ending u v (word w') (word_ending w' W)) K) (record { shorter = H.shorter; first = H.first })) M
+        (let front = skipped_shorter u (ending_shorter u v (word w') (word_ending w' W)) K in omega (arith, H.shorter)) M
 
 module _ {u v q : List ℕ} (n : ℕ) (b : Bool) (K : Frames) (B : Kept) where
   module _ (W : Worded u (letters_of Then) v) (S : Skipped v q) where

@@ -55,12 +55,12 @@ pub not_told : (F : Kept → Kept) {n m : Option ℕ} (xs : List ℕ) → F many
 unfolding kept_in
 not_told F xs full e f l = rw (e, f) (record { held = sym full; counted = tt; filled = l })
 
-pub put_one : (count at : ℕ) {n : Option ℕ} {v x : ℕ} (xs : List ℕ) → n ≡ Some count → v ≡ x → at + count ≡ 1023 → length xs ≡ 1024 → Stored (Some (count + 1)) (set xs at v) (put_on x (kept_in n xs))
+pub put_one : (count at x : ℕ) {n : Option ℕ} (xs : List ℕ) → n ≡ Some count → at + count ≡ 1023 → length xs ≡ 1024 → Stored (Some (count + 1)) (set xs at x) (put_on x (kept_in n xs))
 unfolding put_on kept_in
-put_one count at {x = x} xs told same h l =
+put_one count at x xs told h l =
     let e : drop (1024 - (count + 1)) (set xs at x) ≡ x ∷ drop (1024 - count) xs =
     (let a : 1024 - (count + 1) ≡ at = omega arith in let b : 1024 - count ≡ suc at = omega arith in rw (a, b) (drop_stored xs at x (omega arith))) in
-    rw (told, same) (one_more count _ _ e (omega arith) (length-set xs at x ∙ l))
+    rw told (one_more count _ _ e (omega arith) (length-set xs at x ∙ l))
 
 -- a node where it is asked for
 pub stored_asked : {a : Bool} {n : Option ℕ} {xs : List ℕ} {B : Kept} (B' : Kept) → a ≡ true → Stored n xs B → Stored n xs (cond a B B')

@@ -16,14 +16,32 @@ use Rattle.reader.specs.declared.frames.Opened.TheVariants.{Bracket, Ending, Oth
 use Rattle.reader.specs.contracts.frames.Opened.{the_type}
 use Rattle.reader.specs.declared.frames.Frame.{Frame}
 use Rattle.reader.specs.declared.moves.Reader.{Reader}
+use Rattle.reader.specs.declared.moves.Stage.{Stage}
+use Rattle.reader.specs.declared.moves.Stage.TheVariants.{Due, DueBefore, Met}
 use Rattle.reader.specs.declared.moves.Room.{Room}
 use Rattle.table.specs.inner.Making.{node_of}
 use Rattle.text.specs.Parts.{word, Present, signal_of}
 use Rattle.reader.specs.inner.Nodes.{clip, Kept, kept_count, put_on, insert_on, Frames, bottom, bracket, otherwise, of_present, Work, failed, due, met, heading}
 use Rattle.reader.specs.inner.Nodes.{chained, single, push_frame, open_frame, end_frame, then_frame, else_frame, bare_frame, present_frame, work_heading, work_headed, work, work_all}
 use Rattle.reader.specs.inner.Kept.{kept_in, Counted, Stored}
-use Rattle.reader.specs.inner.Held.{framed_as, framed, frames_of, stack_at, stack_of, nodes_of, due_state, met_state, state, Ready, Moved}
+use Rattle.reader.specs.inner.Held.{framed_as, after_of, staged, framed, frames_of, stack_at, stack_of, nodes_of, due_state, met_state, state, Ready, Moved}
 use Rattle.reader.proofs.Held.{frame_stored}
+
+-- ---- By the stage
+
+module _ (r : Reader) (m : Room) where
+  pub state_due : (r.stage ≡ Met → ⊥) → state r m ≡ due_state r m
+  unfolding state staged
+  state_due = go r.stage
+    where
+      go : (s : Stage) → (s ≡ Met → ⊥) → staged s (due_state r m) (met_state r m) ≡ due_state r m
+      go Due f = refl
+      go DueBefore f = refl
+      go Met f = absurd (f refl)
+
+  pub state_met : r.stage ≡ Met → state r m ≡ met_state r m
+  unfolding state staged
+  state_met e = ap (λ (s : Stage). staged s (due_state r m) (met_state r m)) e
 
 -- ---- Where a move ends
 
@@ -36,14 +54,18 @@ ready_nodes R ys l = record { room = R.room; counted = R.counted; frames = R.fra
 pub ready_within : {r s : Reader} {m : Room} {ranged : Bool} → s ≡ record r { ranged = ranged } → Ready r m → Ready s m
 ready_within e R = rw e (record { room = R.room; counted = R.counted; frames = R.frames; nodes = R.nodes })
 
-pub moved_due : (r s : Reader) (m : Room) (a b : Bool) → s ≡ record r { is_due = true; after = a; beside = b } → Ready r m → Moved r s m (due r.left a b (stack_of r m) (nodes_of r m))
-unfolding state due_state
-moved_due r s m a b e R =
+pub moved_due : (r s : Reader) (m : Room) (b : Bool) → s ≡ record r { stage = Due; beside = b } → Ready r m → Moved r s m (due r.left false b (stack_of r m) (nodes_of r m))
+unfolding state staged due_state after_of
+moved_due r s m b e R =
     rw e (record { state = refl; ready = record { room = R.room; counted = R.counted; frames = R.frames; nodes = R.nodes }; ranged = refl })
 
+pub moved_before : (r : Reader) (m : Room) → Ready r m → Moved r (record r { stage = DueBefore }) m (due r.left true r.beside (stack_of r m) (nodes_of r m))
+unfolding state staged due_state after_of
+moved_before r m R = record { state = refl; ready = record { room = R.room; counted = R.counted; frames = R.frames; nodes = R.nodes }; ranged = refl }
+
 pub moved_met : (r : Reader) (m : Room) (a b : Bool) {n : Option ℕ} {ys : List ℕ} → Ready r m → Stored n ys (chained a (nodes_of r m))
-    → Moved r (record r { is_due = false; after = false; beside = b; count = n }) (record { frames = m.frames; nodes = ys }) (single r.left a b (stack_of r m) (nodes_of r m))
-unfolding state met_state single
+    → Moved r (record r { stage = Met; beside = b; count = n }) (record { frames = m.frames; nodes = ys }) (single r.left a b (stack_of r m) (nodes_of r m))
+unfolding state staged met_state single
 moved_met r m a b R S =
     record {
       state = ap (λ (C : Kept). met r.left b (stack_of r m) C) S.held;
@@ -89,23 +111,23 @@ unfolding kept_count kept_in
 count_told None xs h l = refl
 count_told (Some n) xs h l = simp length-drop (omega arith)
 
-pub opened : (r s : Reader) (m : Room) (f : Frame) (left : ℕ) {k : ℕ} → s ≡ record r { is_due = true; after = false; beside = false; left = left } → Ready r m → left + 1 ≡ r.left → f.behind ≡ k
-    → Moved r s (record { frames = set m.frames left f; nodes = m.nodes }) (push_frame r.left (framed_as f.opened f.after f.beside k (stack_of r m)) (nodes_of r m))
-unfolding push_frame state due_state
-opened r s m f left e R n told =
+pub opened : (r s : Reader) (m : Room) (f : Frame) (left : ℕ) {k : ℕ} {a : Bool} → s ≡ record r { stage = Due; beside = false; left = left } → Ready r m → left + 1 ≡ r.left → f.behind ≡ k → f.after ≡ a
+    → Moved r s (record { frames = set m.frames left f; nodes = m.nodes }) (push_frame r.left (framed_as f.opened a f.beside k (stack_of r m)) (nodes_of r m))
+unfolding push_frame state staged due_state after_of
+opened r s m f left e R n told after-told =
     let l : r.left ≡ suc left = sym n ∙ add-one left in
     let room = R.room in
     let long = R.frames in
     let top : stack_at left (set m.frames left f) ≡ framed f (stack_at (suc left) m.frames) = frame_stored m.frames left f (omega arith) in
-    rw (e, l, ← told) (record {
+    rw (e, l, ← told, ← after-told) (record {
       state = ap (λ (K : Frames). due left false false K (nodes_of r m)) top;
       ready = record { room = omega arith; counted = R.counted; frames = length-set m.frames left f ∙ long; nodes = R.nodes };
       ranged = refl;
     })
 
-pub branched : (r s : Reader) (m : Room) (f : Frame) → s ≡ record r { is_due = true; after = false; beside = false } → Ready r m → r.left < 60 → stack_of r m ≡ framed f (stack_at (suc r.left) m.frames) → f.opened ≡ Ending
+pub branched : (r s : Reader) (m : Room) (f : Frame) → s ≡ record r { stage = Due; beside = false } → Ready r m → r.left < 60 → stack_of r m ≡ framed f (stack_at (suc r.left) m.frames) → f.opened ≡ Ending
     → Moved r s (record { frames = set m.frames r.left (record f { opened = Otherwise }); nodes = m.nodes }) (else_frame r.left (nodes_of r m) (stack_of r m))
-unfolding else_frame framed_as state due_state
+unfolding else_frame framed_as state staged due_state after_of
 branched r s m f e R h top told =
     let long = R.frames in
     let new : stack_at r.left (set m.frames r.left (record f { opened = Otherwise })) ≡ otherwise f.after f.beside (stack_at (suc r.left) m.frames) = frame_stored m.frames r.left _ (omega arith) in
@@ -214,7 +236,7 @@ TestBranches r f m S n m' = Branches r f m n m' (put_on (node_of 6 S)) (branch_f
 
 abbrev pub BareBranches : Reader → Frame → Room → ℕ → Option ℕ → Room → Type 0
 BareBranches r f m S n m' =
-    Branches r f m n m' (λ B. put_on (node_of 6 S) (put_on (node_of 0 0) B)) (bare_frame r.left S r.after r.beside (stack_of r m) (nodes_of r m))
+    Branches r f m n m' (λ B. put_on (node_of 6 S) (put_on (node_of 0 0) B)) (bare_frame r.left S (after_of r.stage) r.beside (stack_of r m) (nodes_of r m))
 
 pub branches_closed : {r : Reader} {f : Frame} {m : Room} {n : Option ℕ} {m' : Room} (F : Kept → Kept) {y : Work} {c : Option ℕ} {ys : List ℕ} {s : Reader} {q : Room} → Branches r f m n m' F y → Stored c ys (F (kept_in n m'.nodes))
     → Moved r s q (single (suc r.left) f.after f.beside (stack_at (suc r.left) m'.frames) (kept_in c ys)) → Moved r s q y
@@ -243,22 +265,22 @@ module _ (r : Reader) (m : Room) (f : Frame) (top : stack_of r m ≡ framed f (s
           whole = present_closed r.left S f.after f.beside _ (nodes_of r m) h ∙ sym (at_frame (branch_frame S r.left (nodes_of r m)) f _ top told refl);
         })
 
-  module _ (h : (r.after || r.beside) ≡ false) where
+  module _ (h : (after_of r.stage || r.beside) ≡ false) where
     pub bare_ending : f.opened ≡ Ending → {c : Option ℕ} {ys : List ℕ} → m' ≡ record { frames = m.frames; nodes = ys } → n ≡ c → Stored c ys (put_on (node_of 0 0) (nodes_of r m))
-        → Branches r f m n m' (λ B. put_on (node_of 6 S) (put_on (node_of 0 0) B)) (bare_frame r.left S r.after r.beside (stack_of r m) (nodes_of r m))
+        → Branches r f m n m' (λ B. put_on (node_of 6 S) (put_on (node_of 0 0) B)) (bare_frame r.left S (after_of r.stage) r.beside (stack_of r m) (nodes_of r m))
     unfolding bare_frame framed_as
     bare_ending told e g T =
         rw (e, g) (record {
           frames = refl;
           whole = ap (λ (C : Kept). single (suc r.left) f.after f.beside (stack_at (suc r.left) m.frames) (put_on (node_of 6 S) (put_on (node_of 0 0) C))) T.held
-              ∙ sym (bare_alone r.left S r.after r.beside (stack_of r m) (nodes_of r m) h ∙ at_frame (alone_frame S r.left (nodes_of r m)) f _ top told refl);
+              ∙ sym (bare_alone r.left S (after_of r.stage) r.beside (stack_of r m) (nodes_of r m) h ∙ at_frame (alone_frame S r.left (nodes_of r m)) f _ top told refl);
         })
 
     pub bare_otherwise : f.opened ≡ Otherwise → m' ≡ m → n ≡ r.count
-        → Branches r f m n m' (λ B. put_on (node_of 6 S) (put_on (node_of 0 0) B)) (bare_frame r.left S r.after r.beside (stack_of r m) (nodes_of r m))
+        → Branches r f m n m' (λ B. put_on (node_of 6 S) (put_on (node_of 0 0) B)) (bare_frame r.left S (after_of r.stage) r.beside (stack_of r m) (nodes_of r m))
     unfolding bare_frame framed_as
     bare_otherwise told e g =
         rw (e, g) (record {
           frames = refl;
-          whole = sym (bare_alone r.left S r.after r.beside (stack_of r m) (nodes_of r m) h ∙ at_frame (alone_frame S r.left (nodes_of r m)) f _ top told refl);
+          whole = sym (bare_alone r.left S (after_of r.stage) r.beside (stack_of r m) (nodes_of r m) h ∙ at_frame (alone_frame S r.left (nodes_of r m)) f _ top told refl);
         })

@@ -10,8 +10,6 @@ use lib.Dec.{ltb}
 use lib.ListN.{length, get_or, take, drop, take-append-drop, length-take, length-append}
 use lib.Seq.{drop_at, get_or-append-add}
 use borrow.Author.Tests.{ltb-true, ltb-false}
-use Rattle.std.specs.Char.{is_ascii_digit}
-use Rattle.std.proofs.lemmas.Bool.Decides.{nat_tests}
 use Rattle.sets.proofs.Booleans.{clash, not_true}
 use Rattle.text.specs.Parts.{number}
 use Rattle.text.specs.Spelling.{digits, last_of}
@@ -21,7 +19,7 @@ use Rattle.text.proofs.Spelling.{last_append}
 use Rattle.std.specs.Prelude.{None}
 use Rattle.reader.specs.inner.Nodes.{clip}
 use Rattle.reader.specs.inner.Ending.{Figures, Three, Number, Numbers}
-use Rattle.reader.proofs.Bytes.{last_apart, last_at, last_none}
+use Rattle.reader.proofs.Bytes.{last_apart, last_at}
 use Rattle.reader.proofs.Working.{clip_small, clip_large}
 
 -- ---- Bytes that are digits
@@ -117,10 +115,6 @@ continued v (d ∷ ds) l h =
 pub no_number : (u : List ℕ) → is_digit (last_of u) ≡ false → Numbers u None
 no_number u f v m e g = clash (ap (λ (x : List ℕ). is_digit (last_of x)) e ∙ last_digits v m) f
 
-pub no_digit : (u : List ℕ) → length u ≡ 0 → is_digit (last_of u) ≡ false
-unfolding is_digit
-no_digit u h = rw (← last_none u (omega arith))
-
 -- u is w and two digits, of which the second was cut off first
 pub two_apart : (u v : List ℕ) (ones tens : ℕ) → u ≡ v ++ (ones ∷ []) → 1 ≤ length v → tens ≡ last_of v → u ≡ take (length v - 1) v ++ (tens ∷ ones ∷ [])
 two_apart u v ones tens e l h =
@@ -138,16 +132,9 @@ pub undigit : (u : List ℕ) → (1 ≤ length u → 48 ≤ get_or u (length u -
 undigit u f =
     not_true (is_digit (last_of u)) (λ e. let l = some_digit u e in let r = digit_range (last_of u) e in f l (omega (arith, last_at u l)) (omega (arith, last_at u l)))
 
-pub ascii_digit : (b : ℕ) → is_ascii_digit b ≡ is_digit b
-unfolding is_digit
-ascii_digit b = grind (arith, nat_tests)
-
--- what the test of a byte says, and of a last byte
-pub tested : (b : ℕ) {r z : Bool} → r ≡ is_ascii_digit b → r ≡ z → is_digit b ≡ z
-tested b f g = sym (ascii_digit b) ∙ sym f ∙ g
-
-pub last_tested : (v : List ℕ) {b : ℕ} {r z : Bool} → b ≡ last_of v → r ≡ is_ascii_digit b → r ≡ z → is_digit (last_of v) ≡ z
-last_tested v {b} e f g = ap is_digit (sym e) ∙ tested b f g
+-- it is a digit
+pub last_digit : (u : List ℕ) → 1 ≤ length u → 48 ≤ get_or u (length u - 1) 0 → get_or u (length u - 1) 0 ≤ 57 → is_digit (last_of u) ≡ true
+last_digit u l h k = ap is_digit (sym (last_at u l)) ∙ is_digit_lem _ h k
 
 -- u is v and digits behind it
 pub record Behind (u v : List ℕ) : Type 0 where

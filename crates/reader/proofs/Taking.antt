@@ -1,26 +1,28 @@
 -- Taking parts from the end of a text: what was taken brings the machine on, and where no part that ends the text suits it, no text that ends so is one of a statement.
-use Prim.Native.Nat.{ℕ}
+use Prim.Native.Nat.{ℕ, ◌<◌}
 use mathlib.Core.Path.{◌≡◌, refl, sym, ap, ◌∙◌}
 use mathlib.Core.Logic.{◌⊎◌, inl, inr}
 use mathlib.Core.Bool.{Bool, true, false, ◌&&◌, and_assoc, and-true}
 use mathlib.Core.Option.{Option, none, some}
 use mathlib.Core.List.{List, [], ◌∷◌, ◌++◌, append_assoc}
 use native.Mathlib.Omega.{arith}
+use lib.ListN.{length}
 use Rattle.sets.proofs.Booleans.{clash}
-use denote.Ref.{Bor}
 use Rattle.std.specs.Prelude.{Some, None}
 use Rattle.std.specs.Prelude as std
+use Rattle.reader.specs.declared.lexing.Rest.{Rest}
 use Rattle.reader.specs.declared.moves.Reader.{Reader}
 use Rattle.reader.specs.declared.moves.Room.{Room}
 use Rattle.text.specs.Parts.{Part}
 use Rattle.text.specs.Spelling.{last_of}
 use Rattle.text.specs.inner.Lexer.{lex, finished, all_of, flushed, rest}
-use Rattle.reader.specs.inner.Ending.{Ending, blank_byte}
+use Rattle.reader.specs.inner.Ending.{Ending}
+use Rattle.reader.specs.inner.Blanks.{blank_byte}
 use Rattle.reader.specs.inner.Nodes.{part_ranged, all_ranged, Work, failed, work, work_all, made, begun, broken, verdict_for, verdict_in}
 use Rattle.reader.specs.inner.Held.{state, Ready, Moved, Clean, Doomed, Advanced, Took}
 use Rattle.reader.proofs.Working.{work_failed, work_append}
 use Rattle.reader.proofs.Fronts.{rest_in_front}
-use Rattle.reader.proofs.Places.{Front, front_ending}
+use Rattle.reader.proofs.Places.{ending_shorter}
 use Rattle.reader.proofs.Endings.{Ends, ending_rest, rest_ends}
 
 -- ---- Parts one after the other
@@ -81,21 +83,21 @@ Goes u v x ranged s m = Advanced u v x (state s m) ranged s.ranged × Ready s m
 
 -- a move on what the parts behind v make of the machine
 pub took : (u v : List ℕ) (x : Work) (part : Part) (parts : List Part) {ranged : Bool} {r s : Reader} {m : Room} → ((ts : List Part) → rest u ts ≡ rest v (part ∷ (parts ++ ts)))
-    → r.ranged ≡ (all_ranged (part ∷ parts) && ranged) → Front u v → Moved r s m (work_all (part ∷ parts) x) → Goes u v x ranged s m
-took u v x part parts goes_on within F M =
-    (record { part = part; parts = parts; goes_on = goes_on; worked = M.state; within = M.ranged ∙ within; shorter = F.shorter; first = F.first }, M.ready)
+    → r.ranged ≡ (all_ranged (part ∷ parts) && ranged) → length v < length u → Moved r s m (work_all (part ∷ parts) x) → Goes u v x ranged s m
+took u v x part parts goes_on within shorter M =
+    (record { part = part; parts = parts; goes_on = goes_on; worked = M.state; within = M.ranged ∙ within; shorter = shorter }, M.ready)
 
 module _ (u v : List ℕ) (t : Part) (E : Ending u v t) (x : Work) where
   pub took_part : part_ranged t ≡ true → {r s : Reader} {m : Room} → Moved r s m (work t x) → Goes u v x r.ranged s m
   unfolding work_all all_ranged
-  took_part within {r} M = took u v x t [] (λ ts. ending_rest _ _ t ts E) (sym (ap (λ (z : Bool). (z && true) && r.ranged) within)) (front_ending u v t E) M
+  took_part within {r} M = took u v x t [] (λ ts. ending_rest _ _ t ts E) (sym (ap (λ (z : Bool). (z && true) && r.ranged) within)) (ending_shorter u v t E) M
 
   pub doomed_part : work t x ≡ failed → Doomed u x
   unfolding work_all
   doomed_part f = doomed_parts u v x t [] (λ ts. ending_rest _ _ t ts E) f
 
 -- a part was taken from u to v, and what stands before it suits what it made of the machine
-module _ (u v : List ℕ) (t : Part) (x : Work) (ranged mid : Bool) (goes_on : (ts : List Part) → rest u ts ≡ rest v (t ∷ ts)) (F : Front u v) (within : mid ≡ (part_ranged t && ranged)) where
+module _ (u v : List ℕ) (t : Part) (x : Work) (ranged mid : Bool) (goes_on : (ts : List Part) → rest u ts ≡ rest v (t ∷ ts)) (behind : length v < length u) (within : mid ≡ (part_ranged t && ranged)) where
   advanced_behind : (w : List ℕ) (y : Work) (ranged' : Bool) → Advanced v w (work t x) y mid ranged' → Advanced u w x y ranged ranged'
   unfolding work_all all_ranged
   advanced_behind w y ranged' A =
@@ -107,10 +109,9 @@ module _ (u v : List ℕ) (t : Part) (x : Work) (ranged mid : Bool) (goes_on : (
         worked = A.worked ∙ sym (work_append (A.part ∷ A.parts) (t ∷ []) x);
         within = A.within ∙ ap (λ (z : Bool). all && z) within ∙ sym (and_assoc all (part_ranged t) ranged)
             ∙ ap (λ (z : Bool). z && ranged) (ap (λ (z : Bool). all && z) (sym (and-true (part_ranged t))) ∙ sym (range_append (A.part ∷ A.parts) (t ∷ [])));
-        shorter = omega (arith, A.shorter, F.shorter);
-        first = λ h. A.first (F.first h);
+        shorter = omega (arith, A.shorter);
       }
 
-  pub took_behind : blank_byte (last_of v) ≡ false → (o : std.Option (Bor (List ℕ) × Reader)) (m : Room) → Took v (work t x) mid o m → Took u x ranged o m
+  pub took_behind : blank_byte (last_of v) ≡ false → (o : std.Option (Rest × Reader)) (m : Room) → Took v (work t x) mid o m → Took u x ranged o m
   took_behind solid None m d = doomed_behind u v t x goes_on solid d
-  took_behind solid (Some p) m a = (advanced_behind p.0.now (state p.1 m) p.1.ranged a.0, a.1)
+  took_behind solid (Some p) m a = (advanced_behind p.0.bytes.now (state p.1 m) p.1.ranged a.0, a.1)

@@ -6,8 +6,8 @@ pub enum Opened {
     Otherwise,
 }
 
-// What is open, with what stands behind it: whether a `;`, whether a `||`, and how many nodes, of which none is told where there
-// are too many.
+// What is open, with what stands behind it: whether a `;`, whether a `||`, and how many nodes. Where there are too many it is 0 and no
+// Option, which would be asked once more what the reader's count tells: that no node is put any more.
 #[derive(Clone, Copy)]
 pub struct Frame {
     pub opened: Opened,

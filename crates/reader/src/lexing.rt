@@ -1,108 +1,115 @@
 // What stands at the end of a text, which is taken apart from its end.
-ghost use Rattle.std.specs.Prelude.{◌≡◌, false, length, get_or};
-ghost use Rattle.text.specs.Spelling.{last_of};
-ghost use Rattle.text.specs.inner.Lexer.{is_digit, is_letter};
-ghost use Rattle.reader.specs.inner.Ending.{blank_byte, Words, Numbers, Signals, Skipped, Three};
+ghost use Rattle.std.specs.Prelude.{◌≡◌, false, get_or};
+ghost use Rattle.reader.specs.inner.Blanks.{blank_byte};
 
-// A number of three digits or more is out of every kind's range.
+// Where a number of three digits or more saturates: in no kind's range. Kept a number: 19 is given only when all of the text was read,
+// and until then a node is made of what is out of range too, for which an `Option` would need a number in its place.
 const HUGE: u8 = 100;
 
-// A byte of a word, a number, a signal or a pause.
-fn is_letter(byte: u8) -> bool
-    ensures { result ≡ is_letter byte }
-{
-    matches!(byte, b'0'..=b':' | b'S' | b'a'..=b'z')
+// What is left of a text: it does not begin with a blank.
+#[derive(Clone, Copy)]
+pub struct Rest<'a> {
+    pub bytes: &'a [u8],
+    pub ghost solid: { blank_byte (get_or bytes.now 0 0) ≡ false },
 }
 
-// The last byte of a text; 0 where there is none.
-pub fn last(text: &[u8]) -> u8
-    ensures { result ≡ last_of text.now }
-{
-    match text {
-        [.., byte] => *byte,
-        [] => 0,
-    }
-}
+impl<'a> Rest<'a> {
+    ghost use Rattle.std.specs.Prelude.{◌≡◌};
+    ghost use Rattle.text.specs.Spelling.{last_of};
+    ghost use Rattle.text.specs.inner.Lexer.{is_letter};
+    ghost use Rattle.reader.specs.inner.Ending.{Begun, Before, Words, Numbers, Signals, Skipped, Three};
 
-// Whether what begins behind a text would be one part with its end.
-pub fn touches(text: &[u8]) -> bool
-    ensures { result ≡ is_letter (last_of text.now) }
-{
-    is_letter(last(text))
-}
+    // A text of which nothing was taken; none where it begins with a blank.
+    #[tactic(auto, using(crate::proofs::Bytes::no_blank), unfolding(crate::specs::inner::Blanks::blank_byte))]
+    pub fn of(text: &'a [u8]) -> Option<Rest<'a>>
+        ensures { Begun text.now result }
+    {
+        match text {
+            [b' ' | b'\n', ..] => None,
+            _ => Some(Rest { bytes: text }),
+        }
+    }
 
-// What stands before the word that a text ends in.
-pub fn word<'a>(text: &'a [u8], letters: &[u8]) -> Option<&'a [u8]>
-    ensures { Words text.now letters.now result }
-{
-    let before = text.strip_suffix(letters)?;
-    if touches(before) {
-        return None;
+    // Whether what begins behind it would be one part with its end: a word, a number, a signal or a pause.
+    #[tactic(auto, using(crate::proofs::Bytes::last_at, crate::proofs::Bytes::last_none), unfolding(text::specs::inner::Lexer::is_letter))]
+    pub fn touches(self) -> bool
+        ensures { result ≡ is_letter (last_of self.entry.bytes.now) }
+    {
+        matches!(self.bytes, [.., b'0'..=b':' | b'S' | b'a'..=b'z'])
     }
-    Some(before)
-}
 
-// The number of three digits or more that a text ends in.
-fn long_number(text: &[u8]) -> Option<(u8, &[u8])>
-    requires { Three text.now }
-    ensures { Numbers text.now result }
-{
-    let mut before = &text[..text.len() - 3];
-    while let [rest @ .., b'0'..=b'9'] = before {
-        before = rest;
+    // What stands before the bytes that it ends in.
+    pub fn before(self, bytes: &[u8]) -> Option<Rest<'a>>
+        ensures { Before self.entry.bytes.now bytes.now result }
+    {
+        let before = self.bytes.strip_suffix(bytes)?;
+        Some(Rest { bytes: before })
     }
-    if text[before.len()] == b'0' {
-        return None;
-    }
-    Some((HUGE, before))
-}
 
-// The number that a text ends in, and what stands before it; none where there is no digit, or a leading zero.
-pub fn number(text: &[u8]) -> Option<(u8, &[u8])>
-    ensures { Numbers text.now result }
-{
-    let (ones, behind) = text.split_last()?;
-    if !ones.is_ascii_digit() {
-        return None;
+    // What stands before the word that it ends in.
+    pub fn word(self, letters: &[u8]) -> Option<Rest<'a>>
+        ensures { Words self.entry.bytes.now letters.now result }
+    {
+        let before = self.before(letters)?;
+        if before.touches() {
+            return None;
+        }
+        Some(before)
     }
-    let tens = last(behind);
-    if !tens.is_ascii_digit() {
-        return Some((*ones - b'0', behind));
-    }
-    let before = &behind[..behind.len() - 1];
-    if last(before).is_ascii_digit() {
-        return long_number(text);
-    }
-    if tens == b'0' {
-        return None;
-    }
-    Some(((tens - b'0') * 10 + (*ones - b'0'), before))
-}
 
-// The signal that a text ends in, and what stands before it.
-pub fn signal(text: &[u8]) -> Option<(u8, &[u8])>
-    ensures { Signals text.now result }
-{
-    let (value, behind) = number(text)?;
-    let before = word(behind, b"S")?;
-    Some((value, before))
-}
-
-// Whether a blank stands at the beginning.
-pub fn starts_blank(text: &[u8]) -> bool
-    ensures { result ≡ blank_byte (get_or text.now 0 0) }
-{
-    matches!(text, [b' ' | b'\n', ..])
-}
-
-// The text before the blanks that it ends in, where it does not begin with one.
-pub fn skip(text: &[u8]) -> &[u8]
-    requires { blank_byte (get_or text.now 0 0) ≡ false }
-    ensures { Skipped text.now result.now }
-{
-    let mut before = text;
-    while let [rest @ .., b' ' | b'\n'] = before {
-        before = rest;
+    // The number of three digits or more that it ends in.
+    fn long_number(self) -> Option<(u8, Rest<'a>)>
+        requires { Three self.bytes.now }
+        ensures { Numbers self.entry.bytes.now result }
+    {
+        let mut before = &self.bytes[..self.bytes.len() - 3];
+        while let [rest @ .., b'0'..=b'9'] = before {
+            before = rest;
+        }
+        let leading_zero = self.bytes[before.len()] == b'0';
+        if leading_zero {
+            return None;
+        }
+        Some((HUGE, Rest { bytes: before }))
     }
-    before
+
+    // The number that it ends in, and what stands before it; none where there is no digit, or a leading zero.
+    pub fn number(self) -> Option<(u8, Rest<'a>)>
+        ensures { Numbers self.entry.bytes.now result }
+    {
+        let [behind @ .., ones @ b'0'..=b'9'] = self.bytes else {
+            return None;
+        };
+        let [before @ .., tens @ b'0'..=b'9'] = behind else {
+            return Some((*ones - b'0', Rest { bytes: behind }));
+        };
+        if let [.., b'0'..=b'9'] = before {
+            return self.long_number();
+        }
+        let leading_zero = *tens == b'0';
+        if leading_zero {
+            return None;
+        }
+        Some(((*tens - b'0') * 10 + (*ones - b'0'), Rest { bytes: before }))
+    }
+
+    // The signal that it ends in, and what stands before it.
+    pub fn signal(self) -> Option<(u8, Rest<'a>)>
+        ensures { Signals self.entry.bytes.now result }
+    {
+        let (value, behind) = self.number()?;
+        let before = behind.word(b"S")?;
+        Some((value, before))
+    }
+
+    // What stands before the blanks that it ends in.
+    pub fn skip(self) -> Rest<'a>
+        ensures { Skipped self.entry.bytes.now result.bytes.now }
+    {
+        let mut before = self.bytes;
+        while let [rest @ .., b' ' | b'\n'] = before {
+            before = rest;
+        }
+        Rest { bytes: before }
+    }
 }

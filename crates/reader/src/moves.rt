@@ -1,42 +1,59 @@
 // The moves of the reader: what a part does to where it stands, to what is open and to the nodes. The text is not looked at here.
 ghost use Rattle.std.specs.Prelude.{◌≡◌, true, false, [], ◌∷◌, suc, ◌≤◌, ◌<◌};
-ghost use Rattle.table.specs.inner.Making.{node_of};
 ghost use Rattle.text.specs.Parts.{word, Present, signal_of};
 ghost use Rattle.reader.specs.inner.Nodes.{kept_count, put_on, due, aside, single, push_frame, open_frame, end_frame, then_frame, else_frame, bare_frame, work_all};
 ghost use Rattle.reader.specs.inner.Kept.{kept_in, Counted, Stored};
-ghost use Rattle.reader.specs.inner.Held.{framed_as, stack_at, stack_of, nodes_of, single_at, whole_reader, Ready, Topmost, Moved, Moves};
+ghost use Rattle.reader.specs.declared.moves.Stage.TheVariants.{Due, DueBefore, Met};
+ghost use Rattle.reader.specs.inner.Held.{framed_as, after_of, stack_at, stack_of, nodes_of, single_at, whole_reader, Ready, Topmost, Moved, Moves};
 
 use crate::frames::{Frame, Opened};
 use crate::nodes::{insert_nothing, put, put_if};
 use table::{DEEPEST, MOST_NODES};
 
-// Room for what is open, the innermost first, and for the nodes.
+// Room for what is open, the innermost first, and for the nodes. Arrays, since an entry for C has no memory but the stack. How
+// much of them is in use stands in the `Reader`: that is a value, which a move takes and gives, and what lies past it in an array means
+// nothing.
 #[derive(Drop)]
 pub struct Room {
     pub frames: [Frame; DEEPEST],
     pub nodes: [u16; MOST_NODES],
 }
 
-// Where the reader stands: whether a statement is due or a chain was met, whether all numbers are in range, whether a `;` and whether
-// a `||` stands behind, how many brackets and `end`s may still be opened, how many nodes there are.
+// A statement is due, or one with a `;` behind it is due, or a chain was met.
+#[derive(Clone, Copy, Debug, PartialEq, Eq)]
+pub enum Stage {
+    Due,
+    DueBefore,
+    Met,
+}
+
+// Where the reader stands: whether a statement is due or a chain was met, whether all numbers are in range, whether a `||` stands
+// behind, how many brackets and `end`s may still be opened, how many nodes there are. What is always true of them, `Ready`, stands in
+// the contracts: it is of the reader and its room together, and a ghost field of either would take the `..self` from the moves.
 #[derive(Clone, Copy)]
 pub struct Reader {
-    pub is_due: bool,
+    pub stage: Stage,
     pub ranged: bool,
-    pub after: bool,
     pub beside: bool,
     pub left: usize,
     pub count: Option<usize>,
 }
 
 impl Reader {
+    // Whether a `;` stands behind the statement that is due.
+    #[tactic(auto, unfolding(crate::specs::inner::Held::after_of))]
+    fn after(self) -> bool
+        ensures { result ≡ after_of self.stage }
+    {
+        self.stage == Stage::DueBefore
+    }
+
     // A statement is due.
-    fn due(self, after: bool, beside: bool) -> Self
-        ensures { result ≡ record self { is_due = true; after = after; beside = beside } }
+    fn due(self, beside: bool) -> Self
+        ensures { result ≡ record self { stage = Due; beside = beside } }
     {
         Reader {
-            is_due: true,
-            after,
+            stage: Stage::Due,
             beside,
             ..self
         }
@@ -47,22 +64,22 @@ impl Reader {
         requires { Ready self room.old }
         ensures { Moved self result room.new (single self.left after beside (stack_of self room.old) (nodes_of self room.old)) }
     {
+        let sequence = table::node_of(table::SEQUENCE, 0);
         Reader {
-            is_due: false,
-            after: false,
+            stage: Stage::Met,
             beside,
-            count: put_if(&mut room.nodes, self.count, after, table::SEQUENCE),
+            count: put_if(&mut room.nodes, self.count, after, sequence),
             ..self
         }
     }
 
     // A statement of one node.
-    pub fn leaf(self, room: &mut Room, kind: u16, operand: u8) -> Self
-        requires { (kind < 16) × Ready self room.old }
-        ensures { Moved self result room.new (single_at self room.old (put_on (node_of kind operand) (nodes_of self room.old))) }
+    pub fn leaf(self, room: &mut Room, node: u16) -> Self
+        requires { Ready self room.old }
+        ensures { Moved self result room.new (single_at self room.old (put_on node (nodes_of self room.old))) }
     {
-        let count = put(&mut room.nodes, self.count, kind, operand);
-        Reader { count, ..self }.met(room, self.after, self.beside)
+        let count = put(&mut room.nodes, self.count, node);
+        Reader { count, ..self }.met(room, self.after(), self.beside)
     }
 
     // What is open innermost.
@@ -92,34 +109,36 @@ impl Reader {
     // A `]` or an `end`: one more is open.
     pub fn open(self, room: &mut Room, opened: Opened) -> Option<Self>
         requires { Ready self room.old }
-        ensures { Moves self result room.new (push_frame self.left (framed_as opened self.after self.beside (kept_count (nodes_of self room.old)) (stack_of self room.old)) (nodes_of self room.old)) }
+        ensures { Moves self result room.new (push_frame self.left (framed_as opened (after_of self.stage) self.beside (kept_count (nodes_of self room.old)) (stack_of self room.old)) (nodes_of self room.old)) }
     {
         let left = self.left.checked_sub(1)?;
         room.frames[left] = Frame {
             opened,
-            after: self.after,
+            after: self.after(),
             beside: self.beside,
             behind: self.count.unwrap_or(0),
         };
-        Some(Reader { left, ..self }.due(false, false))
+        Some(Reader { left, ..self }.due(false))
     }
 
     // `present S` right before `end` or `else`: the branches that are not there are nothing.
     pub fn bare(self, room: &mut Room, signal: u8) -> Option<Self>
         requires { Ready self room.old }
-        ensures { Moves self result room.new (bare_frame self.left signal self.after self.beside (stack_of self room.old) (nodes_of self room.old)) }
+        ensures { Moves self result room.new (bare_frame self.left signal (after_of self.stage) self.beside (stack_of self room.old) (nodes_of self room.old)) }
     {
-        if self.after | self.beside {
+        if self.after() | self.beside {
             return None;
         }
         let frame = self.top(room)?;
+        let nothing = table::node_of(table::NOTHING, 0);
         let otherwise = match frame.opened {
             Opened::Bracket => return None,
-            Opened::Ending => put(&mut room.nodes, self.count, table::NOTHING, 0),
+            Opened::Ending => put(&mut room.nodes, self.count, nothing),
             Opened::Otherwise => self.count,
         };
-        let branches = put(&mut room.nodes, otherwise, table::NOTHING, 0);
-        let count = put(&mut room.nodes, branches, table::PRESENT, signal);
+        let branches = put(&mut room.nodes, otherwise, nothing);
+        let present = table::node_of(table::PRESENT, signal);
+        let count = put(&mut room.nodes, branches, present);
         Some(self.closed(room, frame, count))
     }
 
@@ -127,7 +146,10 @@ impl Reader {
     pub fn semicolon(self) -> Self
         ensures { (m : Room) → Ready self m → Moved self result m (due self.left true self.beside (stack_of self m) (nodes_of self m)) }
     {
-        self.due(true, self.beside)
+        Reader {
+            stage: Stage::DueBefore,
+            ..self
+        }
     }
 
     // The chain that was met is whole: the node of the `||` behind it goes before it.
@@ -135,9 +157,9 @@ impl Reader {
         requires { Ready self room.old }
         ensures { (result ≡ whole_reader self result.count) × Stored result.count room.new.nodes (aside self.beside (nodes_of self room.old)) × (room.new.frames ≡ room.old.frames) }
     {
+        let parallel = table::node_of(table::PARALLEL, 0);
         Reader {
-            after: false,
-            count: put_if(&mut room.nodes, self.count, self.beside, table::PARALLEL),
+            count: put_if(&mut room.nodes, self.count, self.beside, parallel),
             ..self
         }
     }
@@ -146,7 +168,7 @@ impl Reader {
     pub fn bars(self) -> Self
         ensures { (m : Room) → Ready self m → Moved self result m (due self.left false true (stack_of self m) (nodes_of self m)) }
     {
-        self.due(false, true)
+        self.due(true)
     }
 
     // `[` before a whole chain.
@@ -162,15 +184,15 @@ impl Reader {
     }
 
     // `loop`, `try` or `signal S in` before its body.
-    pub fn body(self, room: &mut Room, kind: u16, operand: u8) -> Option<Self>
-        requires { (kind < 16) × Ready self room.old }
-        ensures { Moves self result room.new (end_frame self.left (put_on (node_of kind operand) (nodes_of self room.old)) (stack_of self room.old)) }
+    pub fn body(self, room: &mut Room, node: u16) -> Option<Self>
+        requires { Ready self room.old }
+        ensures { Moves self result room.new (end_frame self.left (put_on node (nodes_of self room.old)) (stack_of self room.old)) }
     {
         let frame = self.top(room)?;
         let Opened::Ending = frame.opened else {
             return None;
         };
-        let count = put(&mut room.nodes, self.count, kind, operand);
+        let count = put(&mut room.nodes, self.count, node);
         Some(self.closed(room, frame, count))
     }
 
@@ -185,7 +207,8 @@ impl Reader {
             Opened::Ending => insert_nothing(&mut room.nodes, self.count, frame.behind),
             Opened::Otherwise => self.count,
         };
-        let count = put(&mut room.nodes, branches, table::PRESENT, signal);
+        let present = table::node_of(table::PRESENT, signal);
+        let count = put(&mut room.nodes, branches, present);
         Some(self.closed(room, frame, count))
     }
 
@@ -202,6 +225,6 @@ impl Reader {
             opened: Opened::Otherwise,
             ..frame
         };
-        Some(self.due(false, false))
+        Some(self.due(false))
     }
 }

@@ -1,24 +1,17 @@
 // The nodes of a text, put in a buffer from its end, and how many there are: none is told where there are more than a table may have.
-ghost use Rattle.std.specs.Prelude.{◌≡◌, cond, ◌<◌};
-ghost use Rattle.table.specs.inner.Making.{node_of};
+ghost use Rattle.std.specs.Prelude.{cond};
 ghost use Rattle.reader.specs.inner.Nodes.{put_on, insert_on};
 ghost use Rattle.reader.specs.inner.Kept.{kept_in, Counted, Stored};
 
 use table::{MOST_NODES, NOTHING};
 
 // A node in front.
-pub fn put(
-    nodes: &mut [u16; MOST_NODES],
-    count: Option<usize>,
-    kind: u16,
-    operand: u8,
-) -> Option<usize>
-    requires { kind < 16 }
-    ensures { Stored result nodes.new (put_on (node_of kind operand) (kept_in count nodes.old)) }
+pub fn put(nodes: &mut [u16; MOST_NODES], count: Option<usize>, node: u16) -> Option<usize>
+    ensures { Stored result nodes.new (put_on node (kept_in count nodes.old)) }
 {
     let count = count?;
     let at = (MOST_NODES - 1).checked_sub(count)?;
-    nodes[at] = table::node_of(kind, operand);
+    nodes[at] = node;
     Some(count + 1)
 }
 
@@ -27,13 +20,13 @@ pub fn put_if(
     nodes: &mut [u16; MOST_NODES],
     count: Option<usize>,
     asked: bool,
-    kind: u16,
+    node: u16,
 ) -> Option<usize>
-    requires { (kind < 16) × Counted count }
-    ensures { Stored result nodes.new (cond asked (put_on (node_of kind 0) (kept_in count nodes.old)) (kept_in count nodes.old)) }
+    requires { Counted count }
+    ensures { Stored result nodes.new (cond asked (put_on node (kept_in count nodes.old)) (kept_in count nodes.old)) }
 {
     if asked {
-        return put(nodes, count, kind, 0);
+        return put(nodes, count, node);
     }
     count
 }

@@ -1,13 +1,15 @@
 -- What the room and the reader of the code hold: the nodes, the stack and the state of the machine over nodes; and what moves and
 -- taking parts from the end of a text do to it.
-use Rattle.std.specs.Prelude.{Result, ℕ, suc, ◌-◌, ◌≤◌, ◌<◌, ◌≡◌, Bool, true, false, cond, ◌&&◌, List, [], ◌∷◌, ◌++◌, Option, Some, None, Ok, Err, length, drop, get_or}
+use Rattle.std.specs.Prelude.{Result, ℕ, suc, ◌-◌, ◌≤◌, ◌<◌, ◌≡◌, Bool, true, false, ◌&&◌, List, [], ◌∷◌, ◌++◌, Option, Some, None, Ok, Err, length, drop}
 use Rattle.std.proofs.Math.Option.{none}
-use denote.Ref.{Bor}
 use Rattle.reader.specs.declared.frames.Opened.{Opened}
 use Rattle.reader.specs.declared.frames.Opened.TheVariants.{Bracket, Ending, Otherwise}
 use Rattle.reader.specs.declared.frames.Frame.{Frame}
+use Rattle.reader.specs.declared.lexing.Rest.{Rest}
 use Rattle.reader.specs.declared.moves.Room.{Room}
 use Rattle.reader.specs.declared.moves.Reader.{Reader}
+use Rattle.reader.specs.declared.moves.Stage.{Stage}
+use Rattle.reader.specs.declared.moves.Stage.TheVariants.{Due, DueBefore, Met}
 use Rattle.table.specs.declared.Refusal.{Refusal}
 use Rattle.table.specs.declared.Refusal.TheVariants.{Grammar, Number, Count}
 use Rattle.text.specs.Parts.{Word, Part, word, signal_of}
@@ -16,7 +18,7 @@ use Rattle.text.specs.inner.Lexer.{rest}
 use Rattle.reader.specs.inner.Nodes.{Kept, Frames, bottom, bracket, ending, otherwise}
 use Rattle.reader.specs.inner.Nodes.{clip, aside, Work, failed, due, numbered, named, met, single, work, work_all, made, begun, all_ranged, Verdict, broken, outside, over, whole, verdict_in}
 use Rattle.reader.specs.inner.Kept.{kept_in, Counted}
-use Rattle.reader.specs.inner.Ending.{blank_byte}
+use Rattle.reader.specs.inner.Blanks.{blank_byte}
 
 -- ---- The stack: the frames, the innermost first
 unfoldable pub framed_as : Opened → Bool → Bool → ℕ → Frames → Frames
@@ -36,6 +38,12 @@ unfoldable pub stack_at : ℕ → List Frame → Frames
 stack_at left fs = frames_of (drop left fs)
 
 -- ---- The reader: what is open, the nodes, what a single statement makes, and a chain that is whole
+-- whether a `;` stands behind what is due
+unfoldable pub after_of : Stage → Bool
+after_of Due = false
+after_of DueBefore = true
+after_of Met = false
+
 abbrev pub stack_of : Reader → Room → Frames
 stack_of r m = stack_at r.left m.frames
 
@@ -43,27 +51,32 @@ abbrev pub nodes_of : Reader → Room → Kept
 nodes_of r m = kept_in r.count m.nodes
 
 abbrev pub single_at : Reader → Room → Kept → Work
-single_at r m B = single r.left r.after r.beside (stack_of r m) B
+single_at r m B = single r.left (after_of r.stage) r.beside (stack_of r m) B
 
 abbrev pub whole_reader : Reader → Option ℕ → Reader
-whole_reader r count = record r { after = false; count = count }
+whole_reader r count = record r { count = count }
 
 -- a statement is due, or a chain was met
 unfoldable pub due_state : Reader → Room → Work
-due_state r m = due r.left r.after r.beside (stack_of r m) (nodes_of r m)
+due_state r m = due r.left (after_of r.stage) r.beside (stack_of r m) (nodes_of r m)
 
 unfoldable pub met_state : Reader → Room → Work
 met_state r m = met r.left r.beside (stack_of r m) (nodes_of r m)
 
 -- a number, or a signal, was taken and its word is due
 unfoldable pub numbered_state : Reader → ℕ → Room → Work
-numbered_state r k m = numbered r.left k r.after r.beside (stack_of r m) (nodes_of r m)
+numbered_state r k m = numbered r.left k (after_of r.stage) r.beside (stack_of r m) (nodes_of r m)
 
 unfoldable pub named_state : Reader → ℕ → Room → Work
-named_state r S m = named r.left S r.after r.beside (stack_of r m) (nodes_of r m)
+named_state r S m = named r.left S (after_of r.stage) r.beside (stack_of r m) (nodes_of r m)
+
+unfoldable pub staged : Stage → Work → Work → Work
+staged Due x y = x
+staged DueBefore x y = x
+staged Met x y = y
 
 unfoldable pub state : Reader → Room → Work
-state r m = cond r.is_due (due_state r m) (met_state r m)
+state r m = staged r.stage (due_state r m) (met_state r m)
 
 -- what a reader and its room always are
 pub record Ready (r : Reader) (m : Room) : Type 0 where
@@ -105,17 +118,11 @@ pub record Advanced (u v : List ℕ) (x y : Work) (ranged ranged' : Bool) : Type
   pub worked : y ≡ work_all (part ∷ parts) x
   pub within : ranged' ≡ (all_ranged (part ∷ parts) && ranged)
   pub shorter : length v < length u
-  pub first : blank_byte (get_or u 0 0) ≡ false → blank_byte (get_or v 0 0) ≡ false
 
 -- what was taken from the end of the text
-abbrev pub Took : List ℕ → Work → Bool → Option (Bor (List ℕ) × Reader) → Room → Type 0
+abbrev pub Took : List ℕ → Work → Bool → Option (Rest × Reader) → Room → Type 0
 Took u x ranged None m = Doomed u x
-Took u x ranged (Some p) m = Advanced u p.0.now x (state p.1 m) ranged p.1.ranged × Ready p.1 m
-
--- a text that is not empty and does not begin with a blank
-pub record Begins (u : List ℕ) : Type 0 where
-  pub some : 1 ≤ length u
-  pub solid : blank_byte (get_or u 0 0) ≡ false
+Took u x ranged (Some p) m = Advanced u p.0.bytes.now x (state p.1 m) ranged p.1.ranged × Ready p.1 m
 
 -- what holds of every chain that was met, where the reader holds its nodes with that of the `||` behind it
 abbrev pub Chained : Reader → Room → (Work → Type 0) → Type 0
@@ -134,12 +141,11 @@ pub record Heading (u v : List ℕ) (w : Word) (value : ℕ) : Type 0 where
   pub held : clip number ≡ value
   pub goes_on : (ts : List Part) → rest u ts ≡ rest v (word w ∷ signal_of number ∷ ts)
   pub shorter : length v < length u
-  pub first : blank_byte (get_or u 0 0) ≡ false → blank_byte (get_or v 0 0) ≡ false
 
 -- or it is not, and no text that ends so is one of a statement
-abbrev pub Headings : List ℕ → Word → Option (ℕ × Bor (List ℕ)) → Type 0
+abbrev pub Headings : List ℕ → Word → Option (ℕ × Rest) → Type 0
 Headings u w None = (x : Work) → Awaits w x → Doomed u x
-Headings u w (Some p) = Heading u p.1.now w p.0
+Headings u w (Some p) = Heading u p.1.bytes.now w p.0
 
 -- ---- What a text is found to be: refusal 18, 19 or 3, or how many nodes stand at the end of the buffer
 pub record Whole (nodes : List ℕ) (r : Result ℕ Refusal) (xs : List ℕ) : Type 0 where

@@ -14,4 +14,4 @@ returns-in_err-at c =
     put_none c.in_ok-count.count _ _ c.in_ok-count.was c.from_residual-in_err-at.ensures (omega (arith, c.in_err-at.ensures)) c.told-nodes
 
 pub returns : goal.returns
-returns c = put_one _ _ _ c.in_ok-count.was c.node_of.ensures (omega (arith, c.in_ok-at.ensures)) c.told-nodes
+returns c = put_one _ _ _ _ c.in_ok-count.was (omega (arith, c.in_ok-at.ensures)) c.told-nodes

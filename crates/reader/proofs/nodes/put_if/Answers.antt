@@ -6,4 +6,4 @@ pub returns-then-asked : goal.returns-then-asked
 returns-then-asked c = stored_asked _ c.if-asked.true c.put.ensures
 
 pub returns : goal.returns
-returns c = stored_unasked _ c.if-asked.false c.requires.1 c.told-nodes
+returns c = stored_unasked _ c.if-asked.false c.requires c.told-nodes

@@ -3,22 +3,17 @@ use mathlib.Core.Path.{subst}
 use mathlib.Core.List.{List}
 use Prim.Native.Nat.{ℕ}
 use Rattle.std.specs.Prelude.{None}
-use Rattle.text.specs.Parts.{signal_of}
 use Rattle.reader.specs.inner.Ending.{Worded, Words}
-use Rattle.reader.proofs.Places.{front_ending}
 use Rattle.reader.proofs.Heads.{no_heading, other_word, heading_there}
 use Rattle.reader.proofs.parsing.heading.Goals as goal
 
 pub returns-in_err-value : goal.returns-in_err-value
 returns-in_err-value c = λ w e. rw c.from_residual.ensures (no_heading _ w c.in_err-value.ensures)
 
-pub skip-requires : goal.skip-requires
-skip-requires c = (front_ending _ _ (signal_of c.in_ok-value.ensures.number) c.in_ok-value.ensures.there).first c.requires
-
 pub returns-in_err-before : goal.returns-in_err-before
 returns-in_err-before c = λ w e.
-    rw c.from_residual-in_err-before.ensures (other_word _ _ _ w c.in_ok-value.ensures c.skip.ensures (subst (λ (ls : List ℕ). Words c.skip.result.now ls None) e c.in_err-before.ensures))
+    rw c.from_residual-in_err-before.ensures (other_word _ _ _ w c.in_ok-value.ensures c.skip.ensures (subst (λ (ls : List ℕ). Words c.skip.result.bytes.now ls None) e c.in_err-before.ensures))
 
 pub returns : goal.returns
 returns c = λ w e.
-    heading_there _ _ _ w c.in_ok-value.ensures c.skip.ensures c.in_ok-before.before.now (subst (λ (ls : List ℕ). Worded c.skip.result.now ls c.in_ok-before.before.now) e c.in_ok-before.ensures)
+    heading_there _ _ _ w c.in_ok-value.ensures c.skip.ensures c.in_ok-before.before.bytes.now (subst (λ (ls : List ℕ). Worded c.skip.result.bytes.now ls c.in_ok-before.before.bytes.now) e c.in_ok-before.ensures)

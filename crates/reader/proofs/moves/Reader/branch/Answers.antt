@@ -18,4 +18,4 @@ returns c =
       | in-Ending w ↦ branch_ending _ _ _ c.in_ok-frame.ensures.1 _ c.requires.0 w.in-Ending.is w.room-is w.branches-is w.insert_nothing-branches.ensures
       | in-Otherwise w ↦ branch_otherwise _ _ _ c.in_ok-frame.ensures.1 _ c.requires.0 w.in-Otherwise.is w.room-is w.branches-is
     ] in
-    branches_closed (put_on (node_of 6 c.args.signal)) branches c.put-count.ensures c.closed.ensures
+    branches_closed (put_on (node_of 6 c.args.signal)) branches (rw c.node_of-present.ensures at c.put-count.ensures) c.closed.ensures

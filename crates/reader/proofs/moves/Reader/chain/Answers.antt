@@ -5,4 +5,4 @@ use Rattle.reader.proofs.moves.Reader.chain.Goals as goal
 
 pub returns : goal.returns
 unfolding aside
-returns c = (refl, c.put_if.ensures, refl)
+returns c = (refl, rw c.node_of-parallel.ensures at c.put_if.ensures, refl)

@@ -5,4 +5,4 @@ use Rattle.reader.proofs.moves.Reader.met.Goals as goal
 
 pub returns : goal.returns
 unfolding chained
-returns c = moved_met _ _ _ _ c.requires c.put_if.ensures
+returns c = moved_met _ _ _ _ c.requires (rw c.node_of-sequence.ensures at c.put_if.ensures)

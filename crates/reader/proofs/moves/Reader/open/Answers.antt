@@ -13,4 +13,4 @@ returns-in_err-left c =
 
 pub returns : goal.returns
 returns c =
-    opened _ _ c.args.room.now _ _ c.due.ensures c.requires (omega (arith, c.in_ok-left.ensures)) (c.unwrap_or.ensures ∙ count_told _ _ c.requires.counted c.requires.nodes)
+    opened _ _ c.args.room.now _ _ c.due.ensures c.requires (omega (arith, c.in_ok-left.ensures)) (c.unwrap_or.ensures ∙ count_told _ _ c.requires.counted c.requires.nodes) c.after.ensures

@@ -1,6 +1,6 @@
 -- `reader::moves::Reader::semicolon` meets its contract: a statement is due, with a `;` behind it.
-use Rattle.reader.proofs.Moving.{moved_due}
+use Rattle.reader.proofs.Moving.{moved_before}
 use Rattle.reader.proofs.moves.Reader.semicolon.Goals as goal
 
 pub returns : goal.returns
-returns c = λ m R. moved_due _ _ m _ _ c.due.ensures R
+returns c = λ m R. moved_before _ m R

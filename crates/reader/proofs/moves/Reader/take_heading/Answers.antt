@@ -1,22 +1,18 @@
 -- `reader::moves::Reader::take_heading` meets its contract: `then` or `in` stands there with its signal and word, or no parts that suit.
 use mathlib.Core.Path.{refl, ap}
 use mathlib.Core.List.{[], ◌∷◌}
+use native.Mathlib.Omega.{arith}
+use Rattle.reader.proofs.Bytes.{last_some}
 use Rattle.table.specs.inner.Making.{node_of}
-use Rattle.text.specs.Parts.{Signal, Present, In, Then, word, signal_of}
+use Rattle.text.specs.Parts.{Signal, Present, word, signal_of}
 use Rattle.text.specs.Spelling.{letters_of}
 use Rattle.reader.specs.declared.moves.Reader.{Reader}
 use Rattle.reader.specs.inner.Nodes.{put_on, end_frame, then_frame, work_all}
 use Rattle.reader.specs.inner.Held.{stack_of, nodes_of}
-use Rattle.reader.proofs.Places.{front_ending}
-use Rattle.reader.proofs.Parting.{word_ending}
 use Rattle.reader.proofs.Moving.{moved_as, ready_within}
 use Rattle.reader.proofs.Chains.{no_in}
 use Rattle.reader.proofs.Heads.{value_most, then_doomed, then_failed, took_then, in_doomed, in_failed, took_in}
 use Rattle.reader.proofs.moves.Reader.take_heading.Goals as goal
-
-pub skip-requires : goal.skip-requires
-unfolding letters_of
-skip-requires c = (front_ending _ _ (word Then) (word_ending Then c.in-Some.ensures)).first c.requires.0.solid
 
 pub returns-in_err-signal : goal.returns-in_err-signal
 unfolding letters_of
@@ -24,7 +20,7 @@ returns-in_err-signal c = λ b B e. rw c.from_residual.ensures (then_doomed _ b 
 
 pub branch-tested-requires : goal.branch-tested-requires
 unfolding letters_of
-branch-tested-requires c = (value_most Present (c.in_ok-signal.ensures Present refl), ready_within c.within-tested.ensures c.requires.2)
+branch-tested-requires c = (value_most Present (c.in_ok-signal.ensures Present refl), ready_within c.within-tested.ensures c.requires.1)
 
 pub returns-in_err-branch : goal.returns-in_err-branch
 unfolding letters_of
@@ -40,11 +36,7 @@ returns-in-Some c = λ b B e.
 
 pub returns-in_err-behind : goal.returns-in_err-behind
 unfolding letters_of
-returns-in_err-behind c = λ b B e. rw c.from_residual-in_err-behind.ensures (no_in _ c.requires.0.some _ b _ B c.requires.1 c.in_default.ensures c.in_err-behind.ensures)
-
-pub skip-requires-2 : goal.skip-requires-2
-unfolding letters_of
-skip-requires-2 c = (front_ending _ _ (word In) (word_ending In c.in_ok-behind.ensures)).first c.requires.0.solid
+returns-in_err-behind c = λ b B e. rw c.from_residual-in_err-behind.ensures (no_in _ (last_some _ (omega arith) c.requires.0) _ b _ B c.requires.0 c.in_default.ensures c.in_err-behind.ensures)
 
 pub returns-in_err-signal-2 : goal.returns-in_err-signal-2
 unfolding letters_of
@@ -54,10 +46,11 @@ pub returns-in_err-body : goal.returns-in_err-body
 unfolding letters_of
 returns-in_err-body c = λ b B e.
     rw c.from_residual-in_err-body.ensures (in_failed _ b _ B c.in_ok-behind.ensures c.skip-2.ensures (c.in_ok-signal-2.ensures Signal refl) e
-    (rw c.within-declared.ensures at c.in_err-body.ensures))
+    (rw (c.node_of-node.ensures, c.within-declared.ensures) at c.in_err-body.ensures))
 
 pub returns : goal.returns
 unfolding letters_of
 returns c = λ b B e.
     took_in _ b _ B c.in_ok-behind.ensures c.skip-2.ensures (c.in_ok-signal-2.ensures Signal refl) e c.signal_ranged-2.ensures (ap (λ (q : Reader). q.ranged) c.within-declared.ensures)
-    (moved_as c.in_ok-body.ensures (ap (λ (q : Reader). end_frame q.left (put_on (node_of 5 c.in_ok-signal-2.signal) (nodes_of q c.args.room.now)) (stack_of q c.args.room.now)) c.within-declared.ensures))
+    (moved_as (rw c.node_of-node.ensures at c.in_ok-body.ensures)
+    (ap (λ (q : Reader). end_frame q.left (put_on (node_of 5 c.in_ok-signal-2.signal) (nodes_of q c.args.room.now)) (stack_of q c.args.room.now)) c.within-declared.ensures))

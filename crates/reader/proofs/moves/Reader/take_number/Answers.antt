@@ -11,7 +11,7 @@ use Rattle.reader.proofs.moves.Reader.take_number.Goals as goal
 
 pub returns-in-Some : goal.returns-in-Some
 unfolding numbered_state work work_numbered part_ranged letters_of
-returns-in-Some c = took_part _ _ (word Exit) (word_ending Exit c.in-Some.ensures) _ refl c.leaf.ensures
+returns-in-Some c = took_part _ _ (word Exit) (word_ending Exit c.in-Some.ensures) _ refl (rw c.node_of-exit.ensures at c.leaf.ensures)
 
 pub returns-in_err-before : goal.returns-in_err-before
 unfolding numbered_state letters_of
@@ -19,4 +19,4 @@ returns-in_err-before c = rw c.from_residual.ensures (no_jump _ _ _ _ _ _ _ c.in
 
 pub returns : goal.returns
 unfolding numbered_state work work_numbered part_ranged letters_of
-returns c = took_part _ _ (word Gotopause) (word_ending Gotopause c.in_ok-before.ensures) _ refl c.leaf-2.ensures
+returns c = took_part _ _ (word Gotopause) (word_ending Gotopause c.in_ok-before.ensures) _ refl (rw c.node_of-gotopause.ensures at c.leaf-2.ensures)

@@ -11,7 +11,7 @@ use Rattle.reader.proofs.moves.Reader.take_signal.Goals as goal
 
 pub returns-in-Some : goal.returns-in-Some
 unfolding named_state work work_named part_ranged letters_of
-returns-in-Some c = took_part _ _ (word Emit) (word_ending Emit c.in-Some.ensures) _ refl c.leaf.ensures
+returns-in-Some c = took_part _ _ (word Emit) (word_ending Emit c.in-Some.ensures) _ refl (rw c.node_of-emit.ensures at c.leaf.ensures)
 
 pub returns-in_err-before : goal.returns-in_err-before
 unfolding named_state letters_of

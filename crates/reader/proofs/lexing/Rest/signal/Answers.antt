@@ -1,6 +1,6 @@
--- `reader::lexing::signal` meets its contract: a number stands there, S before it and no letter before that.
+-- `reader::lexing::Rest::signal` meets its contract: a number stands there, S before it and no letter before that.
 use Rattle.reader.proofs.Numerals.{no_signal, no_mark, signal_ending}
-use Rattle.reader.proofs.lexing.signal.Goals as goal
+use Rattle.reader.proofs.lexing.Rest.signal.Goals as goal
 
 pub returns-in_err-value : goal.returns-in_err-value
 returns-in_err-value c = rw c.from_residual.ensures (no_signal _ c.in_err-value.ensures)
