@@ -16,7 +16,7 @@ use Rattle.sets.specs.Set.{has, only, ◌union◌, ◌minus◌, ◌without◌, W
 use Rattle.sets.proofs.Booleans.{or_left, or_right, or_cases, or_false, and_cases, clash}
 use Rattle.sets.proofs.Members.{has_empty, has_union, has_minus, has_only, has_only_other, has_without_same, has_without_other, only_fits}
 use Rattle.esterel.specs.Codes.{Codes, none, through_try}
-use Rattle.reach.specs.inner.Summaries.{resumed_from, Changed, LoweredEach, LabelsFrom, Follows}
+use Rattle.reach.specs.inner.Summaries.{resumed_from, Changed, LoweredEach, LabelsFrom}
 
 -- ---- Reading and storing
 pub read_at : (kept : List Codes) (l : ℕ) (K : Codes) → l < length kept → get_or kept l K ≡ resumed_from kept l
@@ -190,6 +190,3 @@ changed_own kept room l b K = record { size = length-set kept l K; each = λ x c
     each : (x : ℕ) → Dec (x ≡ l) → Goal x
     each x (yes q) = subst Goal (sym q) (stored_same kept l K room b ∙ sym (ap (λ (z : Bool). cond z K (resumed_from kept l)) (has_only l)))
     each x (no n) = stored_other kept l K x n ∙ sym (ap (λ (z : Bool). cond z K (resumed_from kept x)) (has_only_other l x (λ e. n (sym e))))
-
-pub follow_same : {set : ℕ} {K K' : Codes} {kept kept' : List Codes} → Follows set K kept kept' → K ≡ K' → Follows set K' kept kept'
-follow_same {set} {K} {K'} {kept} {kept'} h e = subst (λ (S : Codes). Follows set S kept kept') e h

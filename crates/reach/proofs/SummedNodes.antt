@@ -62,7 +62,7 @@ module _ {left : ℕ} {nodes : List ℕ} {at : ℕ} (found : Summary) (kept : Li
 module _ {left : ℕ} {nodes : List ℕ} {at : ℕ} (h : Summable left nodes at) where
   -- below it, in so many tries
   entered : (tries : ℕ) → Valid tries (statement_at (left - 1) nodes (at + 1)).statement → Summable (left - 1) nodes (at + 1)
-  entered tries v = record { tries = tries; valid = v; all = h.all; known = h.known }
+  entered tries v = record { tries = tries; valid = v; known = h.known }
 
   -- no node is of a kind above 10
   pub never_unknown : (k : ℕ) → 11 ≤ k → Node left nodes at k → ⊥
@@ -146,7 +146,6 @@ module _ {k : ℕ} {f : ℕ → Statement → Statement → Statement} (S : Spli
     enter_second = record {
       tries = h.tries;
       valid = subst (λ (m : ℕ). Valid h.tries (statement_at (left - 1) nodes m).statement) (sym g.next) held.1;
-      all = h.all;
       known = h.known;
     }
 

@@ -5,7 +5,6 @@ use mathlib.Core.Bool.{Bool, true, false, cond, ◌&&◌, ◌||◌, and-true, an
 use mathlib.Core.List.{List}
 use Prim.Native.Nat.{ℕ, ◌<◌}
 use native.Mathlib.Decide.{ℕ_discrete}
-use lib.ListN.{length}
 use Rattle.sets.specs.Set.{has, only, ◌union◌, Apart}
 use Rattle.sets.proofs.Booleans.{or_neither, clash}
 use Rattle.sets.proofs.Members.{has_empty, has_union, has_only, has_only_other}
@@ -135,7 +134,6 @@ module _ (found : Summary) (kept : List Codes) (p : Statement) (at : ℕ) where
     labels = ap (λ (o : Summary). o.pauses) e ∙ sym z;
     ending = λ l b. ap (λ (o : Summary). has o.ending l) e ∙ has_empty l ∙ sym (ap (λ (y : Bool). y && (d (only l) p).ends) (no_label l));
     next = ap (λ (o : Summary). o.next) e;
-    size = refl;
     resumed = λ l b. sym (ap (λ (y : Bool). cond y (d (only l) p) (resumed_from kept l)) (no_label l));
   }
     where
@@ -157,7 +155,6 @@ sum_pause found kept kept' m at h = record {
   labels = ap (λ (o : Summary). o.pauses) h.0;
   ending = λ l b. ap (λ (o : Summary). has o.ending l) h.0 ∙ ends (has (only m) l) ∙ ap (λ (z : Bool). has (only m) l && (cond z just_ended none).ends) (sym (only_swap l m));
   next = ap (λ (o : Summary). o.next) h.0;
-  size = h.1.size;
   resumed = λ l b. h.1.each l b ∙ codes (has (only m) l) (resumed_from kept l) ∙ ap (λ (z : Bool). cond (has (only m) l) (cond z just_ended none) (resumed_from kept l)) (sym (only_swap l m));
 }
   where
@@ -187,9 +184,6 @@ module _ {p q : Placed} {P Q : Summary} {kept one two : List Codes} (h : Summari
   both_kept : (l : ℕ) → l < 64 → resumed_from two l ≡ cond (in_a l || in_b l) (join (A l) (B l)) (resumed_from kept l)
   both_kept l b = kept_two (in_a l) (in_b l) (A l) (B l) (apart l) (d_outside l p.statement) (d_outside l q.statement) (resumed_from kept l) (h.resumed l b) (g.resumed l b)
 
-  both_size : length two ≡ length kept
-  both_size = g.size ∙ h.size
-
   both_labels : P.pauses union Q.pauses ≡ pauses p.statement union pauses q.statement
   both_labels = ap₂ ◌union◌ h.labels g.labels
 
@@ -208,7 +202,6 @@ module _ {p q : Placed} {P Q : Summary} {kept one two : List Codes} (h : Summari
         ∙ ends_two (in_a l) (in_b l) (A l) (B l) (apart l) (d_outside l p.statement) (d_outside l q.statement)
         ∙ sym (ap₂ (λ (z : Bool) (D : Codes). z && D.ends) (in_both l) (c l));
     next = ap (λ (o : Summary). o.next) e ∙ g.next;
-    size = both_size;
     resumed = λ l b. both_kept l b ∙ sym (ap₂ (λ (z : Bool) (D : Codes). cond z D (resumed_from kept l)) (in_both l) (c l));
   }
     where
@@ -228,7 +221,6 @@ module _ {p q : Placed} {P Q : Summary} {kept one two : List Codes} (h : Summari
         ∙ ends_two (in_a l) (in_b l) (followed_by (A l) S) (B l) (apart l) (λ z. ap (λ (K : Codes). followed_by K S) (d_outside l p.statement z) ∙ none_followed S) (d_outside l q.statement)
         ∙ sym (ap₂ (λ (z : Bool) (D : Codes). z && D.ends) (in_both l) (d_followed (only l) p.statement q.statement));
     next = ap (λ (o : Summary). o.next) e ∙ g.next;
-    size = c.size ∙ both_size;
     resumed = λ l b.
         kept_sequence (in_a l) (in_b l) (A l) (B l) S (resumed_from kept l) (apart l) (d_outside l p.statement) (d_outside l q.statement)
         (h.ending l b) (h.resumed l b) (g.resumed l b) (c.each l b ∙ ap (λ (K : Codes). cond (has P.ending l) (join (minus_zero (resumed_from two l)) K) (resumed_from two l)) g.start)
@@ -250,7 +242,7 @@ module _ {p q : Placed} {P Q : Summary} {kept one two : List Codes} (h : Summari
 module _ {p : Placed} {P : Summary} {kept one : List Codes} (h : Summarised p P kept one) where
   pub sum_signal : (n : ℕ) → Summarised (placed (signal n p.statement) p.next) P kept one
   unfolding s d pauses
-  sum_signal n = record { start = h.start; labels = h.labels; ending = h.ending; next = h.next; size = h.size; resumed = h.resumed }
+  sum_signal n = record { start = h.start; labels = h.labels; ending = h.ending; next = h.next; resumed = h.resumed }
 
   pub sum_loop : (found : Summary) (two : List Codes)
       → (found ≡ summary (minus_zero P.start) P.pauses 0 P.next) × Follows P.ending (minus_zero P.start) one two
@@ -264,7 +256,6 @@ module _ {p : Placed} {P : Summary} {kept one : List Codes} (h : Summarised p P 
         ∙ sym (ap (λ (z : Bool). has (pauses p.statement) l && z) (ap (λ (D : Codes). D.ends) (d_looped (only l) p.statement) ∙ never_ends (d (only l) p.statement) (s p.statement))
         ∙ and-false (has (pauses p.statement) l));
     next = ap (λ (o : Summary). o.next) e ∙ h.next;
-    size = c.size ∙ h.size;
     resumed = λ l b.
         kept_followed (has (pauses p.statement) l) (d (only l) p.statement) (minus_zero (s p.statement)) (resumed_from kept l) (h.ending l b) (h.resumed l b)
         (c.each l b ∙ ap (λ (K : Codes). cond (has P.ending l) (join (minus_zero (resumed_from one l)) (minus_zero K)) (resumed_from one l)) h.start)
@@ -280,7 +271,6 @@ module _ {p : Placed} {P : Summary} {kept one : List Codes} (h : Summarised p P 
     labels = ap (λ (o : Summary). o.pauses) e ∙ h.labels;
     ending = λ l b. c.ends l b ∙ ap (λ (m : ℕ). has m l && (through_try (resumed_from one l)).ends) h.labels ∙ ends_through (has (pauses p.statement) l) (d (only l) p.statement) (resumed_from kept l) (h.resumed l b);
     next = ap (λ (o : Summary). o.next) e ∙ h.next;
-    size = c.changed.size ∙ h.size;
     resumed = λ l b.
         kept_through (has (pauses p.statement) l) (d (only l) p.statement) (resumed_from kept l) (h.resumed l b)
         (c.changed.each l b ∙ ap (λ (m : ℕ). cond (has m l) (through_try (resumed_from one l)) (resumed_from one l)) h.labels);

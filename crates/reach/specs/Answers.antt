@@ -7,7 +7,7 @@ use Rattle.table.specs.Reading.{Table, refused, holds, table_of}
 use Rattle.table.specs.declared.Refusal.{Refusal}
 use Rattle.reach.specs.declared.Reached.{Reached}
 
--- what is said of an answer of reach, case by case: the refusal; or whether s has 0, as 1 or 0, the labels of s, R, the rounds
+-- what is said of an answer of reach: the refusal, or whether s has 0, as 1 or 0, the labels of s, R and the rounds
 abbrev pub reached_outcome : Result Reached Refusal → Outcome
 reached_outcome = outcome (λ r. cond r.ends 1 0 ∷ r.labels ∷ r.set ∷ r.rounds ∷ [])
 

@@ -55,6 +55,7 @@ impl CodeSet {
         }
     }
 
+    // Clauses ask for a label below 64, which its type doesn't say: a narrower one would ask more of those who make a label.
     pub fn just_at(label: Label) -> CodeSet
         requires { label.0 < 64 }
         ensures { result ≡ set.just_at label.0 }

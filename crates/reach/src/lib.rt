@@ -62,6 +62,7 @@ pub fn reach(table: &[u8]) -> Result<Reached, Refusal>
 {
     let mut nodes = [0u16; table::MOST_NODES];
     let checked = table::load(table, &mut nodes);
+    // Taken apart by let .. else and not by `?`, as document 01 asks.
     let Ok(_) = checked else {
         return Err(checked.unwrap_err());
     };

@@ -35,7 +35,8 @@ fn follow_each(kept: &mut [CodeSet; LABELS], set: u64, after: CodeSet)
     }
 }
 
-// The set where the flag says so, else none. No branch, since the flag may come of codes that went through a try.
+// The set where the flag says so, else none. A product, so that no jump is made of the flag, which may come of codes that went through
+// a try: an `if` would leave that to the compiler.
 fn set_if(yes: bool, set: u64) -> u64
     ensures { result ≡ cond yes set 0 }
 {
@@ -84,6 +85,7 @@ impl Summary {
         }
     }
 
+    // The label is below 64, as in codes.rt.
     #[inline(always)]
     fn of_pause(label: Label, next: usize, kept: &mut [CodeSet; LABELS]) -> Summary
         requires { label.0 < 64 }

@@ -46,8 +46,8 @@ module _ (t old new : List ℕ) (c : Result ℕ Refusal) (h : (checked_outcome c
     some_node = let (p, held) = load_holds t old new c h n e in (accepted t n p held).header.some
 
     module _ (part : Laid) (work : List ℕ) (E : Ends (trimmed (statement_of new)) part work) where
-      pub end_fields : length old ≡ 1024 → Known old → length work ≡ 1024 → EndFits part work
-      end_fields k known l =
+      pub end_fields : length old ≡ 1024 → Known old → EndFits part work
+      end_fields k known =
           let q : Statement = trimmed (statement_of new) in
           let L = load_loaded t old new c h n e k known in
           let few = size_trimmed (statement_of new) L.valid in
@@ -57,7 +57,6 @@ module _ (t old new : List ℕ) (c : Result ℕ Refusal) (h : (checked_outcome c
           record {
             within = omega (arith, E.count);
             not_all = λ z. omega (arith, E.count);
-            long = l;
             fields = λ held. subst (Below 1024) (sym (E.stands held)) (below_nodes q (valid_ranged 0 q valid));
           }
 

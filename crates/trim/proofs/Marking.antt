@@ -9,7 +9,7 @@ use native.Mathlib.Nat.{mod-lt}
 use native.Mathlib.Decide.{ℕ_discrete}
 use native.Mathlib.Omega.{arith}
 use lib.Dec.{eqb}
-use lib.ListN.{length, get_or, set, length-set}
+use lib.ListN.{length, get_or, set}
 use lib.Seq.{get_or-set_same, get_or-set_other}
 use Rattle.sets.specs.Set.{has, only, ◌union◌}
 use Rattle.sets.proofs.Booleans.{or_false, eqb_differ}
@@ -278,11 +278,10 @@ pub mark_none : (R : ℕ) (nodes : List ℕ) (left at : ℕ) (notes : List Note)
 mark_none R nodes left at notes m h F = record {
   finds = rw (placed_none left nodes at h) F;
   noted = noted_none R notes nodes left at h;
-  size = refl;
   low = λ i l. refl;
 }
 
-module _ (R : ℕ) {left : ℕ} {nodes : List ℕ} {at k : ℕ} (n : Node left nodes at k) {notes : List Note} (N : Markable left nodes at notes) where
+module _ (R : ℕ) {left : ℕ} {nodes : List ℕ} {at k : ℕ} (n : Node left nodes at k) (N : Markable left nodes at) where
   abbrev o : ℕ
   o = operand_of (get_or nodes at 0)
 
@@ -295,25 +294,21 @@ module _ (R : ℕ) {left : ℕ} {nodes : List ℕ} {at k : ℕ} (n : Node left n
   abbrev whole : Placed
   whole = statement_at left nodes at
 
-  inside : at < length notes
-  inside = omega (arith, n.inside, N.all, N.room)
-
   valid_here : Valid N.tries (place_kind (kind_of k) o child (at + 1)).statement
   valid_here = subst (λ (x : Placed). Valid N.tries x.statement) (placed_node n) N.valid
 
-  pub enter_first : 5 ≤ k → k ≤ 10 → Markable (left - 1) nodes (at + 1) notes
-  enter_first a b =
-      let (inside, v) = first_valid k a b N.tries o child (at + 1) valid_here in
-      record { tries = inside; valid = v; all = N.all; known = N.known; room = N.room }
+  pub enter_first : 5 ≤ k → Markable (left - 1) nodes (at + 1)
+  enter_first a =
+      let most : k ≤ 10 = omega (arith, N.known at, n.kind) in
+      let (inside, v) = first_valid k a most N.tries o child (at + 1) valid_here in
+      record { tries = inside; valid = v; known = N.known }
 
-  pub enter_second : 6 ≤ k → k ≤ 8 → {p : Marked} {notes₁ : List Note} → Marks R nodes (left - 1) (at + 1) notes p notes₁
-      → Markable (left - 1) nodes p.next notes₁
+  pub enter_second : 6 ≤ k → k ≤ 8 → {p : Marked} {notes notes₁ : List Note} → Marks R nodes (left - 1) (at + 1) notes p notes₁
+      → Markable (left - 1) nodes p.next
   enter_second a b M = record {
     tries = N.tries;
     valid = subst (λ (j : ℕ). Valid N.tries (child j).statement) (sym M.finds.next) (second_valid k a b N.tries o child (at + 1) valid_here);
-    all = N.all;
     known = N.known;
-    room = M.size ∙ N.room;
   }
 
   -- what a leaf asks
@@ -325,10 +320,10 @@ module _ (R : ℕ) {left : ℕ} {nodes : List ℕ} {at k : ℕ} (n : Node left n
       exit_level v = v.0
 
   -- a place of a note fits it
-  pub note_fits : {p : Marked} → Finds R first p → p.next ≤ 1024
-  note_fits F =
+  pub note_fits : length nodes ≡ 1024 → {p : Marked} → Finds R first p → p.next ≤ 1024
+  note_fits all F =
       let w = next_within nodes (left - 1) (at + 1) (omega (arith, n.inside)) in
-      omega (arith, w, F.next, N.all)
+      omega (arith, w, F.next, all)
 
   module _ (notes₁ : List Note) (x : Note) {notes₂ : List Note} (w : notes₂ ≡ set notes₁ at x) where
     written : at < length notes₁ → get_or notes₂ at no_note ≡ x
@@ -337,22 +332,18 @@ module _ (R : ℕ) {left : ℕ} {nodes : List ℕ} {at k : ℕ} (n : Node left n
     others : (i : ℕ) → i ≢ at → get_or notes₂ i no_note ≡ get_or notes₁ i no_note
     others i l = ap (λ (l : List Note). get_or l i no_note) w ∙ get_or-set_other notes₁ at i x no_note l
 
-    long : length notes₂ ≡ length notes₁
-    long = ap length w ∙ length-set notes₁ at x
-
   found_here : {m : Marked} → Finds R (place_kind (kind_of k) o child (at + 1)) m → Finds R whole m
   found_here F = rw (placed_node n) F
 
-  pub mark_leaf : {m : Marked} {notes₁ : List Note} → k ≤ 4 → LeafFound R k o (at + 1) m → notes₁ ≡ set notes at (note_with 0 m.live false false)
+  pub mark_leaf : {notes : List Note} → at < length notes → {m : Marked} {notes₁ : List Note} → k ≤ 4 → LeafFound R k o (at + 1) m → notes₁ ≡ set notes at (note_with 0 m.live false false)
       → Marks R nodes left at notes m notes₁
   unfolding note_for
-  mark_leaf {m} {notes₁} h F w =
+  mark_leaf {notes} inside {m} {notes₁} h F w =
       let c = leaf_children k h in
       let f = found_here (F child) in
       record {
         finds = f;
         noted = noted_make R notes₁ n (written notes (note_with 0 m.live false false) w inside ∙ ap (λ (z : Bool). note_with 0 z false false) f.lives ∙ rw c, rw c tt);
-        size = long notes (note_with 0 m.live false false) w;
         low = λ i l. others notes (note_with 0 m.live false false) w i (λ z. omega arith);
       }
 
@@ -360,33 +351,31 @@ module _ (R : ℕ) {left : ℕ} {nodes : List ℕ} {at k : ℕ} (n : Node left n
   forward = next_forward nodes (left - 1) (at + 1)
 
   -- one child
-  module _ {p m : Marked} {notes₁ notes₂ : List Note} (M : Marks R nodes (left - 1) (at + 1) notes p notes₁) (c : (row_of (kind_of k)).children ≡ 1) (f : Finds R whole m)
+  module _ {p m : Marked} {notes notes₁ notes₂ : List Note} (M : Marks R nodes (left - 1) (at + 1) notes p notes₁) (inside : at < length notes₁) (c : (row_of (kind_of k)).children ≡ 1) (f : Finds R whole m)
       (x : Note) (w : notes₂ ≡ set notes₁ at x) (e : x ≡ note_for R k whole.statement first) where
     mark_one : Marks R nodes left at notes m notes₂
     mark_one = record {
       finds = f;
       noted = noted_make R notes₂ n (
-        written notes₁ x w (omega (arith, inside, M.size)) ∙ e,
+        written notes₁ x w inside ∙ e,
         rw c (noted_stay R notes₁ notes₂ nodes (left - 1) (at + 1) M.noted (λ i a b. others notes₁ x w i (λ z. omega arith))),
       );
-      size = long notes₁ x w ∙ M.size;
       low = λ i l. others notes₁ x w i (λ z. omega arith) ∙ M.low i (omega arith);
     }
 
   -- two
-  module _ {p q m : Marked} {notes₁ notes₂ notes₃ : List Note} (M : Marks R nodes (left - 1) (at + 1) notes p notes₁) (M₂ : Marks R nodes (left - 1) first.next notes₁ q notes₂)
-      (c : (row_of (kind_of k)).children ≡ 2) (f : Finds R whole m) (x : Note) (w : notes₃ ≡ set notes₂ at x) (e : x ≡ note_for R k whole.statement first) where
+  module _ {p q m : Marked} {notes notes₁ notes₂ notes₃ : List Note} (M : Marks R nodes (left - 1) (at + 1) notes p notes₁) (M₂ : Marks R nodes (left - 1) first.next notes₁ q notes₂)
+      (inside : at < length notes₂) (c : (row_of (kind_of k)).children ≡ 2) (f : Finds R whole m) (x : Note) (w : notes₃ ≡ set notes₂ at x) (e : x ≡ note_for R k whole.statement first) where
     mark_both : Marks R nodes left at notes m notes₃
     mark_both = record {
       finds = f;
       noted = noted_make R notes₃ n (
-        written notes₂ x w (omega (arith, inside, M.size, M₂.size)) ∙ e,
+        written notes₂ x w inside ∙ e,
         rw c (
           noted_stay R notes₁ notes₃ nodes (left - 1) (at + 1) M.noted (λ i a b. others notes₂ x w i (λ z. omega arith) ∙ M₂.low i b),
           noted_stay R notes₂ notes₃ nodes (left - 1) first.next M₂.noted (λ i a b. others notes₂ x w i (λ z. omega (arith, forward))),
         ),
       );
-      size = long notes₂ x w ∙ M₂.size ∙ M.size;
       low = λ i l. others notes₂ x w i (λ z. omega arith) ∙ M₂.low i (omega (arith, forward)) ∙ M.low i (omega arith);
     }
 
@@ -414,33 +403,33 @@ module _ (R : ℕ) {left : ℕ} {nodes : List ℕ} {at k : ℕ} (n : Node left n
   lives_here : {z : Bool} → z ≡ live R (place_kind (kind_of k) o child (at + 1)).statement → z ≡ live R whole.statement
   lives_here e = e ∙ sym (ap (λ (x : Placed). live R x.statement) (placed_node n))
 
-module _ (R : ℕ) {left : ℕ} {nodes : List ℕ} {at : ℕ} {notes : List Note} (N : Markable left nodes at notes) {p : Marked} {notes₁ : List Note}
+module _ (R : ℕ) {left : ℕ} {nodes : List ℕ} {at : ℕ} (N : Markable left nodes at) {p : Marked} {notes notes₁ : List Note}
     (M : Marks R nodes (left - 1) (at + 1) notes p notes₁) where
   abbrev body : Placed
   body = statement_at (left - 1) nodes (at + 1)
 
-  pub mark_signal : (n : Node left nodes at 5) {notes₂ : List Note} → notes₂ ≡ set notes₁ at (written_child R n N p 0 p.live) → Marks R nodes left at notes p notes₂
+  pub mark_signal : (n : Node left nodes at 5) → at < length notes₁ → {notes₂ : List Note} → notes₂ ≡ set notes₁ at (written_child R n N p 0 p.live) → Marks R nodes left at notes p notes₂
   unfolding place_kind kind_of kinds row_of live pauses
-  mark_signal n w =
-      mark_one R n N M refl (found_here R n N (found_signal R body M.finds (operand_of (get_or nodes at 0)))) (written_child R n N p 0 p.live) w
+  mark_signal n inside w =
+      mark_one R n N M inside refl (found_here R n N (found_signal R body M.finds (operand_of (get_or nodes at 0)))) (written_child R n N p 0 p.live) w
       (child_note R n N 0 p.live M.finds refl (lives_here R n N M.finds.lives) refl refl)
 
-  pub mark_loop : (n : Node left nodes at 9) {m : Marked} {notes₂ : List Note} → OneFound loop p m → notes₂ ≡ set notes₁ at (written_child R n N p 0 p.live) → Marks R nodes left at notes m notes₂
+  pub mark_loop : (n : Node left nodes at 9) → at < length notes₁ → {m : Marked} {notes₂ : List Note} → OneFound loop p m → notes₂ ≡ set notes₁ at (written_child R n N p 0 p.live) → Marks R nodes left at notes m notes₂
   unfolding place_kind kind_of kinds row_of live pauses
-  mark_loop n F w =
-      mark_one R n N M refl (found_here R n N (F R body M.finds)) (written_child R n N p 0 p.live) w
+  mark_loop n inside F w =
+      mark_one R n N M inside refl (found_here R n N (F R body M.finds)) (written_child R n N p 0 p.live) w
       (child_note R n N 0 p.live M.finds refl (lives_here R n N M.finds.lives) refl refl)
 
-  pub mark_try : (n : Node left nodes at 10) {m : Marked} {notes₂ : List Note} → OneFound try p m → notes₂ ≡ set notes₁ at (written_try R n N p) → Marks R nodes left at notes m notes₂
+  pub mark_try : (n : Node left nodes at 10) → at < length notes₁ → {m : Marked} {notes₂ : List Note} → OneFound try p m → notes₂ ≡ set notes₁ at (written_try R n N p) → Marks R nodes left at notes m notes₂
   unfolding place_kind kind_of kinds row_of live pauses
-  mark_try n F w =
-      mark_one R n N M refl (found_here R n N (F R body M.finds)) (written_try R n N p) w
+  mark_try n inside F w =
+      mark_one R n N M inside refl (found_here R n N (F R body M.finds)) (written_try R n N p) w
       (try_note R n N M.finds (lives_here R n N M.finds.lives) refl refl)
 
-  pub mark_two : {k : ℕ} → 6 ≤ k → k ≤ 8 → (n : Node left nodes at k) {q m : Marked} {notes₂ notes₃ : List Note} → Marks R nodes (left - 1) p.next notes₁ q notes₂ → PartsFound k p q m
+  pub mark_two : {k : ℕ} (n : Node left nodes at k) → 6 ≤ k → k ≤ 8 → {q m : Marked} {notes₂ notes₃ : List Note} → Marks R nodes (left - 1) p.next notes₁ q notes₂ → at < length notes₂ → PartsFound k p q m
       → notes₃ ≡ set notes₂ at (written_child R n N p p.next (p.live || q.live)) → Marks R nodes left at notes m notes₃
-  mark_two {k} least most n {q} {m} {notes₂} {notes₃} M₂ F w =
-      mark_both R n N M second (two_children k least most) (found_here R n N (F R (operand_of (get_or nodes at 0)) (statement_at (left - 1) nodes) (at + 1) M.finds second.finds))
+  mark_two {k} n least most {q} {m} {notes₂} {notes₃} M₂ inside F w =
+      mark_both R n N M second inside (two_children k least most) (found_here R n N (F R (operand_of (get_or nodes at 0)) (statement_at (left - 1) nodes) (at + 1) M.finds second.finds))
       (written_child R n N p p.next (p.live || q.live)) w
       (child_note R n N p.next (p.live || q.live) M.finds (M.finds.next ∙ sym (ap (λ (c : ℕ). second_place c body) (two_children k least most)))
       (lives_here R n N (ap₂ ◌||◌ M.finds.lives second.finds.lives ∙ sym (two_live R k least most (operand_of (get_or nodes at 0)) (statement_at (left - 1) nodes) (at + 1)))) (rw (two_children k least most)) (eqb_differ k 10 (λ z. omega arith)))

@@ -3,7 +3,7 @@ use mathlib.Core.Path.{◌≡◌, refl, sym, ap, ap₂, ◌∙◌, subst, subst�
 use mathlib.Core.Logic.{◌≢◌}
 use mathlib.Core.Bool.{Bool, true, false, cond, ◌||◌}
 use mathlib.Core.List.{List, [], ◌∷◌, ◌++◌, append_assoc, append-nil}
-use Prim.Native.Nat.{ℕ, zero, suc, ◌+◌, ◌-◌, ◌%◌, ◌^◌, ◌≤◌, ◌<◌, max, zero-le}
+use Prim.Native.Nat.{ℕ, zero, suc, ◌+◌, ◌-◌, ◌%◌, ◌^◌, ◌≤◌, ◌<◌, max}
 use native.Mathlib.Nat.{add-zero}
 use native.Mathlib.Decide.{ℕ_discrete}
 use native.Mathlib.Numerals.{sub-one}
@@ -20,10 +20,13 @@ use Rattle.esterel.specs.Statement.{Statement, nothing, exit, present, sequence,
 use Rattle.esterel.specs.Trimming.{is_nothing, names, join_parts}
 use Rattle.esterel.proofs.Trimming.{is_nothing_lem, join_first, join_both}
 use Rattle.table.specs.Kinds.{kinds, kind_of, row_of}
+use Rattle.table.specs.Reading.{operand_of}
+use Rattle.table.specs.inner.Making.{node_of}
+use Rattle.table.proofs.Making.{node_of_same}
 use Rattle.table.specs.Writing.{nodes, node}
 use Rattle.table.proofs.Nodes.{depth_positive}
 use Rattle.trim.specs.inner.Levels.{wrap_if, guarded_if}
-use Rattle.trim.specs.inner.Parts.{Laid, part, part_depth, Puts, NodesStand, PartStands, WholeStands, held_with, nothing_at, PutAt, Fitting, Joins, LeafPut, NothingFilled, Wrapped, PartsJoined, ElseClosed, PresentClosed}
+use Rattle.trim.specs.inner.Parts.{Laid, part, part_depth, Puts, NodesStand, PartStands, WholeStands, held_with, nothing_at, PutAt, Joins, LeafPut, NothingFilled, Wrapped, PartsJoined, ElseClosed, PresentClosed}
 
 -- ---- lists written from their end
 
@@ -132,39 +135,31 @@ no_depth {z} {n} e h = eqb-true n 0 (sym e ∙ h)
 pub some_depth : {z : Bool} {n : ℕ} → z ≡ eqb n 0 → z ≡ false → n ≢ 0
 some_depth {z} {n} e h = eqb-false n 0 (sym e ∙ h)
 
--- ---- kinds whose operand is 0
+-- ---- the nodes that trimming makes of a kind and an operand
 
-bare : (k : ℕ) → k < 16 → (row_of (kind_of k)).least ≡ 0 → Fitting k 0
-bare k h e = record { kind_in = h; least = omega arith; most = zero-le }
-
-pub nothing_fits : Fitting 0 0
+pub nothing_node : node_of 0 0 ≡ node 0 0
 unfolding row_of kind_of kinds
-nothing_fits = bare 0 (omega arith) refl
+nothing_node = node_of_same 0 0 (omega arith) (omega arith)
 
-pub sequence_fits : Fitting 7 0
+pub sequence_node : node_of 7 0 ≡ node 7 0
 unfolding row_of kind_of kinds
-sequence_fits = bare 7 (omega arith) refl
+sequence_node = node_of_same 7 0 (omega arith) (omega arith)
 
-pub parallel_fits : Fitting 8 0
+pub parallel_node : node_of 8 0 ≡ node 8 0
 unfolding row_of kind_of kinds
-parallel_fits = bare 8 (omega arith) refl
+parallel_node = node_of_same 8 0 (omega arith) (omega arith)
 
-pub loop_fits : Fitting 9 0
+pub loop_node : node_of 9 0 ≡ node 9 0
 unfolding row_of kind_of kinds
-loop_fits = bare 9 (omega arith) refl
+loop_node = node_of_same 9 0 (omega arith) (omega arith)
 
-pub try_fits : Fitting 10 0
+pub try_node : node_of 10 0 ≡ node 10 0
 unfolding row_of kind_of kinds
-try_fits = bare 10 (omega arith) refl
+try_node = node_of_same 10 0 (omega arith) (omega arith)
 
--- and those of the two steps at a present
-pub exit_fits : Fitting 4 1
+pub exit_node : (e : ℕ) → 1 ≤ e → e ≤ 63 → node_of 4 e ≡ node 4 e
 unfolding row_of kind_of kinds
-exit_fits = record { kind_in = omega arith; least = omega arith; most = omega arith }
-
-pub present_fits : (S : ℕ) → S ≤ 31 → Fitting 6 S
-unfolding row_of kind_of kinds
-present_fits S h = record { kind_in = omega arith; least = zero-le; most = h }
+exit_node e = node_of_same 4 e
 
 -- ---- a statement of one node
 
@@ -172,9 +167,9 @@ puts_put : (l before work work' : List ℕ) (to from x f : ℕ) → 1 ≤ from �
     → Puts (x ∷ l) before to f work'
 puts_put l before work work' to from x f h w p e = subst₂ (λ (n : ℕ) (m : List ℕ). Puts (x ∷ l) before to n m) (sym e.0) (sym e.1) (puts_more l before work to from x h w p)
 
-pub leaf_put : (x named : ℕ) (work : List ℕ) (to f : ℕ) (work' : List ℕ) → 1 ≤ to → to ≤ 4096 → PutAt work to x f work'
+pub leaf_put : {x named : ℕ} {work : List ℕ} {to f : ℕ} {work' : List ℕ} → 1 ≤ to → to ≤ 4096 → PutAt work to x f work'
     → LeafPut x named work to (record { from = f; depth = 1; named = named }) work'
-leaf_put x named work to f work' h w e =
+leaf_put {x} {named} {work} {to} {f} {work'} h w e =
     record {
       made = λ t L. whole_made t work to (record { from = f; depth = 1; named = named }) work' L.some (record {
         puts = subst (λ (l : List ℕ). Puts l work to f work') (sym L.nodes_are) (puts_put [] work work work' to to x f h w (puts_none work to) e);
@@ -187,10 +182,10 @@ leaf_put x named work to f work' h w e =
 
 -- ---- nothing filled in
 
-pub filled_none : (work : List ℕ) (p : Laid) (f : ℕ) (work' : List ℕ) → 1 ≤ p.from → p.depth ≡ 0 → PutAt work p.from (node 0 0) f work'
+pub filled_none : {work : List ℕ} {p : Laid} {f : ℕ} {work' : List ℕ} → 1 ≤ p.from → p.depth ≡ 0 → PutAt work p.from (node 0 0) f work'
     → NothingFilled work p (record { from = f; depth = 1; named = p.named }) work'
 unfolding nodes depth part is_nothing
-filled_none work p f work' h z e =
+filled_none {work} {p} {f} {work'} h z e =
     record {
       made = λ t before to w M.
           let n : t ≡ nothing = made_none t before to p work M z in
@@ -202,20 +197,20 @@ filled_none work p f work' h z e =
       shallow = omega arith;
     }
 
-pub filled_some : (work : List ℕ) (p : Laid) → p.depth ≢ 0 → NothingFilled work p p work
-filled_some work p n =
+pub filled_some : {work : List ℕ} {p : Laid} → p.depth ≢ 0 → NothingFilled work p p work
+filled_some {work} {p} n =
     record { made = λ t before to w M. made_whole t before to p work (made_some t before to p work M n) M; near = omega arith; below = omega arith; shallow = omega arith }
 
 -- ---- a statement over a part
 
-pub wrapped_not : (x : ℕ) (z : Bool) (work : List ℕ) (p : Laid) → z ≡ false → Wrapped x z work p p work
+pub wrapped_not : {x : ℕ} {z : Bool} {work : List ℕ} {p : Laid} → z ≡ false → Wrapped x z work p p work
 unfolding wrap_if
-wrapped_not x z work p e = record { made = λ f t before to W w M. rw e M; near = omega arith; shallow = omega arith }
+wrapped_not {x} {z} {work} {p} e = record { made = λ f t before to W w M. rw e M; near = omega arith; shallow = omega arith }
 
-pub wrapped_put : (x : ℕ) (z : Bool) (work : List ℕ) (p v : Laid) (between : List ℕ) (f : ℕ) (work' : List ℕ) → z ≡ true → 1 ≤ v.from
+pub wrapped_put : {x : ℕ} {z : Bool} {work : List ℕ} {p v : Laid} {between : List ℕ} {f : ℕ} {work' : List ℕ} → z ≡ true → 1 ≤ v.from
     → NothingFilled work p v between → PutAt between v.from x f work' → Wrapped x z work p (record { from = f; depth = v.depth + 1; named = v.named }) work'
 unfolding wrap_if
-wrapped_put x z work p v between f work' k h F e =
+wrapped_put {x} {z} {work} {p} {v} {between} {f} {work'} k h F e =
     record {
       made = λ g t before to W w M.
           let U = F.made t before to w M in
@@ -250,7 +245,7 @@ join_none : (f : Statement → Statement → Statement) (t : Statement) → join
 unfolding join_parts is_nothing
 join_none f t = refl
 
-module _ (x : ℕ) (work : List ℕ) (p q : Laid) where
+module _ {x : ℕ} {work : List ℕ} {p q : Laid} where
   pub joined_second : p.depth ≡ 0 → PartsJoined x work p q (record { from = p.from; depth = q.depth; named = q.named }) work
   unfolding part part_depth is_nothing names
   joined_second z =
@@ -283,9 +278,9 @@ module _ (x : ℕ) (work : List ℕ) (p q : Laid) where
         shallow = omega arith;
       }
 
-  pub joined_put : (f : ℕ) (work' : List ℕ) → 1 ≤ p.from → p.depth ≢ 0 → q.depth ≢ 0 → PutAt work p.from x f work'
+  pub joined_put : {f : ℕ} {work' : List ℕ} → 1 ≤ p.from → p.depth ≢ 0 → q.depth ≢ 0 → PutAt work p.from x f work'
       → PartsJoined x work p q (record { from = f; depth = max p.depth q.depth + 1; named = bit_or p.named q.named }) work'
-  joined_put f work' h m n e =
+  joined_put {f} {work'} h m n e =
       record {
         made = λ g s t before between to J w Q P.
             let a : is_nothing s ≡ false = made_some s between q.from p work P m in
@@ -330,9 +325,9 @@ guard_some : (t : Statement) → is_nothing t ≡ false → guarded_if true t �
 unfolding guarded_if wrap_if
 guard_some t e = rw e
 
-module _ (started z : Bool) (work : List ℕ) (q : Laid) where
-  pub else_whole : started ≡ true → (r : Laid) (work' : List ℕ) → NothingFilled work q r work' → ElseClosed started z work q r work'
-  else_whole e r work' F =
+module _ {started z : Bool} {work : List ℕ} {q : Laid} where
+  pub else_whole : started ≡ true → {r : Laid} {work' : List ℕ} → NothingFilled work q r work' → ElseClosed started z work q r work'
+  else_whole e {r} {work'} F =
       rw e (record { made = λ t before to w M. F.made t before to w M; near = F.near; shallow = omega (arith, F.shallow) })
 
   pub else_none : started ≡ false → q.depth ≡ 0 → ElseClosed started z work q q work
@@ -349,11 +344,11 @@ module _ (started z : Bool) (work : List ℕ) (q : Laid) where
   else_free e h =
       rw (e, h) (record { made = λ t before to w M. subst (λ (u : Statement). PartStands u before to q work) (sym (guard_not t)) M; near = omega arith; shallow = omega arith })
 
-  pub else_guarded : started ≡ false → z ≡ true → q.depth ≢ 0 → 3 ≤ q.from → (f₁ f₂ f₃ : ℕ) (work₁ work₂ work₃ : List ℕ)
+  pub else_guarded : started ≡ false → z ≡ true → q.depth ≢ 0 → 3 ≤ q.from → {f₁ f₂ f₃ : ℕ} {work₁ work₂ work₃ : List ℕ}
       → PutAt work q.from (node 4 1) f₁ work₁ → PutAt work₁ f₁ (node 7 0) f₂ work₂ → PutAt work₂ f₂ (node 10 0) f₃ work₃
       → ElseClosed started z work q (record { from = f₃; depth = q.depth + 2; named = q.named }) work₃
   unfolding nodes names is_nothing
-  else_guarded e k n h f₁ f₂ f₃ work₁ work₂ work₃ A B C =
+  else_guarded e k n h {f₁} {f₂} {f₃} {work₁} {work₂} {work₃} A B C =
       rw (e, k) (record {
         made = λ t before to w M.
             let some : is_nothing t ≡ false = made_some t before to q work M n in
@@ -380,27 +375,29 @@ or_turned true false = refl
 or_turned false true = refl
 or_turned false false = refl
 
-module _ (started : Bool) (S : ℕ) (work : List ℕ) (p q : Laid) where
-  pub present_joined : started ≡ false → (r : Laid) (work' : List ℕ) → PartsJoined (node 7 0) work p q r work' → PresentClosed started S work p q r work'
-  present_joined e r work' J =
+module _ {started : Bool} {x : ℕ} {work : List ℕ} {p q : Laid} where
+  pub present_joined : started ≡ false → {r : Laid} {work' : List ℕ} → PartsJoined (node 7 0) work p q r work' → PresentClosed started x work p q r work'
+  present_joined e {r} {work'} J =
       rw e (record {
-        made = λ s t before between to w Q P. J.made sequence s t before between to joins_sequence w Q P;
+        made = λ s t before between to i w Q P. J.made sequence s t before between to joins_sequence w Q P;
         near = J.near;
         shallow = omega (arith, J.shallow);
       })
 
-  pub present_whole : started ≡ true → (v : Laid) (work₁ : List ℕ) (f own : ℕ) (work' : List ℕ) → 1 ≤ v.from → ((n : ℕ) → has own n ≡ eqb n S)
-      → NothingFilled work p v work₁ → PutAt work₁ v.from (node 6 S) f work'
-      → PresentClosed started S work p q (record { from = f; depth = max v.depth q.depth + 1; named = bit_or (bit_or v.named q.named) own }) work'
+  pub present_whole : started ≡ true → {v : Laid} {work₁ : List ℕ} {f : ℕ} {work' : List ℕ} → (own : ℕ) → 1 ≤ v.from → ((n : ℕ) → has own n ≡ eqb n (operand_of x))
+      → NothingFilled work p v work₁ → PutAt work₁ v.from x f work'
+      → PresentClosed started x work p q (record { from = f; depth = max v.depth q.depth + 1; named = bit_or (bit_or v.named q.named) own }) work'
   unfolding nodes is_nothing depth names
-  present_whole e v work₁ f own work' h o F A =
+  present_whole e {v} {work₁} {f} {work'} own h o F A =
       rw e (record {
-        made = λ s t before between to w Q P.
+        made = λ s t before between to i w Q P.
             let U = F.made s between q.from (omega (arith, Q.puts.from_is)) P in
             let r : Laid = record { from = f; depth = max v.depth q.depth + 1; named = bit_or (bit_or v.named q.named) own } in
+            let S = operand_of x in
+            let B : PutAt work₁ v.from (node 6 S) f work' = subst (λ (y : ℕ). PutAt work₁ v.from y f work') i A in
             whole_made (present S s t) before to r work' refl (record {
               puts = puts_put (nodes s ++ nodes t) before work₁ work' to v.from (node 6 S) f h w
-                  (puts_both (nodes s) (nodes t) before between work₁ to q.from v.from w Q.puts U.puts) A;
+                  (puts_both (nodes s) (nodes t) before between work₁ to q.from v.from w Q.puts U.puts) B;
               depth_is = omega (arith, U.depth_is, Q.depth_is);
               names_are = λ m.
                   has_or (bit_or v.named q.named) own m ∙ ap₂ ◌||◌ (names_two v.named q.named m s t (U.names_are m) (Q.names_are m)) (o m)

@@ -20,7 +20,6 @@ use Rattle.table.specs.Outcomes.{refusal, values, buffer_after}
 use Rattle.table.specs.Reading.{length_of, deepest}
 use Rattle.table.specs.inner.Places.{statement_at, statement_of, Loaded}
 use Rattle.table.specs.Writing.{nodes, write_nodes, write}
-use Rattle.table.specs.inner.Making.{Writable}
 use Rattle.table.proofs.Nodes.{length_nodes}
 use Rattle.table.proofs.Fields.{length_write_nodes}
 use Rattle.reach.specs.declared.Settled.{Settled}
@@ -35,10 +34,10 @@ use Rattle.trim.specs.declared.descent.Room.{Room}
 use Rattle.trim.specs.declared.noted.Note.{Note}
 use Rattle.trim.specs.inner.Levels.{level_out, trimmed_in}
 use Rattle.trim.specs.inner.Notes.{Noted}
-use Rattle.trim.specs.inner.Marking.{Markable, Marks}
+use Rattle.trim.specs.inner.Marking.{Marks}
 use Rattle.trim.specs.inner.Parts.{Laid, part, PartStands, NothingFilled, reach_set_of, Trimmable, Done}
 use Rattle.trim.specs.Answers.{trimmed_outcome, values_for, trim_for}
-use Rattle.trim.specs.inner.Root.{Lent, Ends, EndFits, Finished}
+use Rattle.trim.specs.inner.Root.{Lent, Ends, Finished}
 use Rattle.trim.proofs.Levels.{map_closed}
 use Rattle.trim.proofs.Refused.{no_name}
 use Rattle.sets.specs.Set.{has}
@@ -61,14 +60,17 @@ all_places n m work e = (replicate n 0 ++ work, length-append (replicate n 0) wo
 -- ---- trimming the root
 
 -- the rounds over the nodes have come to rest, and there is room for marking and trimming
-pub record AtRest (xs : List ℕ) (notes : List Note) (room : Room) (found : Settled) : Type 0 where
+pub record AtRest (xs : List ℕ) (room : Room) (found : Settled) : Type 0 where
   pub loaded : Loaded xs
-  pub lent : Lent notes room
+  pub lent : Lent room
   pub answer : Result Settled Refusal
   pub reaches : Reaches xs answer
   pub is : answer ≡ Ok found
 
-module _ {xs : List ℕ} {notes : List Note} {room : Room} {found : Settled} (A : AtRest xs notes room found) where
+pub at_rest : {xs : List ℕ} {room : Room} {found : Settled} {r : Result Settled Refusal} → Loaded xs → Lent room → Reaches xs r → r ≡ Ok found → AtRest xs room found
+at_rest {xs} {room} {found} {r} l e h i = record { loaded = l; lent = e; answer = r; reaches = h; is = i }
+
+module _ {xs : List ℕ} {room : Room} {found : Settled} (A : AtRest xs room found) where
   abbrev places : List ℕ
   places = room.places
 
@@ -96,10 +98,7 @@ module _ {xs : List ℕ} {notes : List Note} {room : Room} {found : Settled} (A 
   unfolding trimmed_in trimmed reach_set_of
   root_is = map_closed (level_out places root) 0 result valid
 
-  pub root_markable : Markable 60 xs 0 notes
-  root_markable = record { tries = 0; valid = A.loaded.valid; all = A.loaded.all; known = A.loaded.known; room = A.lent.notes_are }
-
-  module _ {m : Marked} {notes' : List Note} (M : Marks found.set xs 60 0 notes m notes') where
+  module _ {m : Marked} {notes notes' : List Note} (M : Marks found.set xs 60 0 notes m notes') where
     -- marking met no node of no kind
     pub root_marked : eqb m.next 1025 ≡ false
     root_marked = eqb_differ m.next 1025 (λ z. omega (arith, M.finds.next, A.loaded.next_is, A.loaded.few))
@@ -115,7 +114,6 @@ module _ {xs : List ℕ} {notes : List Note} {room : Room} {found : Settled} (A 
           to_in = omega (arith, A.lent.whole);
           tries_in = omega arith;
           kept_in = omega arith;
-          wide = A.lent.places_are;
           low = λ i h. let e : i ≡ 0 = omega arith in rw e (omega (arith, A.lent.outermost));
           caught = λ d h x. absurd (omega arith);
         }
@@ -135,9 +133,9 @@ module _ {xs : List ℕ} {notes : List Note} {room : Room} {found : Settled} (A 
         let f = A.loaded.few in
         omega (arith, part_size result, A.lent.whole)
 
-    pub root_ends : {v : Laid} {work₂ : List ℕ} → NothingFilled work₁ p v work₂ → Ends result v work₂
-    root_ends {v} {work₂} F =
-        let (all, long, is) = all_places 3072 1024 work room.work.full in
+    pub root_ends : length work ≡ 1024 → {v : Laid} {work₂ : List ℕ} → NothingFilled work₁ p v work₂ → Ends result v work₂
+    root_ends held {v} {work₂} F =
+        let (all, long, is) = all_places 3072 1024 work held in
         let W = F.made result work 4096 (omega arith) (subst (λ (n : ℕ). PartStands result work n p work₁) A.lent.whole made) in
         let e = W.puts.from_is in
         let t : length (take v.from all) ≡ v.from = length-take-le v.from all (omega arith) in
@@ -197,11 +195,6 @@ module _ (n : ℕ) (p : Laid) (work out : List ℕ) where
 
       slice_is : slice ≡ drop first work
       slice_is = take_all (1024 - first) (drop first work) (omega (arith, length-drop first work))
-
-      pub finish_writable : EndFits p work → Writable slice (length out)
-      finish_writable F =
-          let count : length (drop first work) ≡ 4096 - p.from = length-drop first work ∙ (omega (arith, F.long, F.within)) in
-          rw slice_is (record { few = omega arith; fields = F.fields held; fits = rw count (omega arith) })
 
       module _ (share : Share) (k : (share.thousandths ≡ thousandths n (4096 - p.from)) × (share.remainder ≡ remainder n (4096 - p.from))) where
         -- the values of the answer are those of the statement

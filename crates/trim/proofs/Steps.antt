@@ -7,11 +7,12 @@ use mathlib.Core.List.{List}
 use Prim.Native.Nat.{ℕ, suc, ◌+◌, ◌-◌, ◌*◌, ◌≤◌, max}
 use native.Mathlib.Omega.{arith}
 use lib.Dec.{eqb}
-use lib.ListN.{length, get_or}
+use lib.ListN.{get_or}
 use Rattle.esterel.specs.Statement.{Statement, nothing, signal, present, sequence, parallel, loop, try, Valid}
 use Rattle.esterel.specs.Trimming.{join_parts, ends_at, can_end, trim}
 use Rattle.table.specs.Kinds.{kinds, kind_of, row_of}
 use Rattle.table.specs.Reading.{operand_of}
+use Rattle.table.specs.Writing.{node}
 use Rattle.table.specs.inner.Places.{Placed, placed, place_kind, statement_at}
 use Rattle.trim.specs.declared.descent.Around.{Around}
 use Rattle.trim.specs.declared.noted.Note.{Note}
@@ -125,7 +126,6 @@ module _ (R at left : ℕ) (a : Around) (places work : List ℕ) (to : ℕ) wher
         room = omega arith;
         shallow = omega arith;
         same = λ i l. refl;
-        long = refl;
       }
 
   -- a part that is not live, where it is only resumed
@@ -138,7 +138,6 @@ module _ (R at left : ℕ) (a : Around) (places work : List ℕ) (to : ℕ) wher
         room = omega arith;
         shallow = omega arith;
         same = λ i l. refl;
-        long = refl;
       }
     where
       made_none : (work : List ℕ) → PartStands (map_exits (level_out places a) 0 nothing) work to (nothing_at to) work
@@ -155,15 +154,14 @@ module _ (R at left : ℕ) (a : Around) (places work : List ℕ) (to : ℕ) wher
         room = omega arith;
         shallow = omega arith;
         same = λ i l. refl;
-        long = refl;
       }
 
   module _ (some : left ≢ 0) (w : to ≤ 4096) where
     pub trimmed_one : (g : Statement → Statement) (x : ℕ) (z : Bool) (s : Statement) (p : Placed) (a' : Around) (places₁ places₂ work₁ work₂ : List ℕ) (v r : Laid)
-        → trimmed_in R places a s ≡ wrap_if g z (trimmed_in R places₁ a' p.statement) → SamePlaces a.tries places places₂ → length places₁ ≡ length places
+        → trimmed_in R places a s ≡ wrap_if g z (trimmed_in R places₁ a' p.statement) → SamePlaces a.tries places places₂
         → Wraps g x → Done R p (at + 1) (left - 1) a' places₁ work to v places₂ work₁ → Wrapped x z work₁ v r work₂
         → Done R (placed s p.next) at left a places work to r places₂ work₂
-    trimmed_one g x z s p a' places₁ places₂ work₁ work₂ v r is same long G P W =
+    trimmed_one g x z s p a' places₁ places₂ work₁ work₂ v r is same G P W =
         let room : to + 4 * (at + 1) ≤ v.from + 4 * p.next = P.room in
         let near : v.from ≤ r.from + 2 = W.near in
         let deep : v.depth ≤ 3 * (left - 1) = P.shallow in
@@ -173,7 +171,6 @@ module _ (R at left : ℕ) (a : Around) (places work : List ℕ) (to : ℕ) wher
           room = omega arith;
           shallow = omega arith;
           same = same;
-          long = P.long ∙ long;
         }
 
     pub trimmed_two : (g : Statement → Statement → Statement) (x : ℕ) (s : Statement) (p q : Placed) (a' : Around) (places₁ places₂ work₁ work₂ work₃ : List ℕ) (u v r : Laid)
@@ -195,16 +192,15 @@ module _ (R at left : ℕ) (a : Around) (places work : List ℕ) (to : ℕ) wher
           room = omega arith;
           shallow = omega arith;
           same = λ i l. P.same i l ∙ same i l;
-          long = P.long ∙ Q.long;
         }
 
-    pub trimmed_branches : (z : Bool) (S : ℕ) (p q : Placed) (a' : Around) (places₁ places₂ work₁ work₂ work₃ work₄ : List ℕ) (u v e r : Laid)
+    pub trimmed_branches : (z : Bool) (x : ℕ) (p q : Placed) (a' : Around) (places₁ places₂ work₁ work₂ work₃ work₄ : List ℕ) (u v e r : Laid)
         → a'.tries ≡ a.tries
-        → trimmed_in R places a (present S p.statement q.statement) ≡ present_if a.started S (trimmed_in R places a p.statement) (branch_if a.started z (trimmed_in R places a' q.statement))
-        → Done R q p.next (left - 1) a' places work to v places₁ work₁ → ElseClosed a.started z work₁ v e work₂
-        → Done R p (at + 1) (left - 1) a places₁ work₂ e.from u places₂ work₃ → PresentClosed a.started S work₃ u e r work₄
-        → Done R (placed (present S p.statement q.statement) q.next) at left a places work to r places₂ work₄
-    trimmed_branches z S p q a' places₁ places₂ work₁ work₂ work₃ work₄ u v e r tries is Q E P C =
+        → trimmed_in R places a (present (operand_of x) p.statement q.statement) ≡ present_if a.started (operand_of x) (trimmed_in R places a p.statement) (branch_if a.started z (trimmed_in R places a' q.statement))
+        → x ≡ node 6 (operand_of x) → Done R q p.next (left - 1) a' places work to v places₁ work₁ → ElseClosed a.started z work₁ v e work₂
+        → Done R p (at + 1) (left - 1) a places₁ work₂ e.from u places₂ work₃ → PresentClosed a.started x work₃ u e r work₄
+        → Done R (placed (present (operand_of x) p.statement q.statement) q.next) at left a places work to r places₂ work₄
+    trimmed_branches z x p q a' places₁ places₂ work₁ work₂ work₃ work₄ u v e r tries is six Q E P C =
         let same : SamePlaces a.tries places places₁ = λ i l. Q.same i (omega arith) in
         let room : e.from + 4 * (at + 1) ≤ u.from + 4 * p.next = P.room in
         let room' : to + 4 * p.next ≤ v.from + 4 * q.next = Q.room in
@@ -217,13 +213,12 @@ module _ (R at left : ℕ) (a : Around) (places work : List ℕ) (to : ℕ) wher
         let deeper : r.depth ≤ max (u.depth + 1) e.depth + 1 = C.shallow in
         record {
           made = subst (λ (t : Statement). PartStands t work to r work₄) (sym is)
-              (C.made (trimmed_in R places a p.statement) (branch_if a.started z (trimmed_in R places a' q.statement)) work work₂ to w
+              (C.made (trimmed_in R places a p.statement) (branch_if a.started z (trimmed_in R places a' q.statement)) work work₂ to six w
               (E.made (trimmed_in R places a' q.statement) work to w Q.made)
               (subst (λ (t : Statement). PartStands t work₂ e.from u work₃) (trimmed_places R places places₁ a p.statement same) P.made));
           room = omega arith;
           shallow = omega arith;
           same = λ i l. P.same i l ∙ same i l;
-          long = P.long ∙ Q.long;
         }
       where
         four : (b : Bool) → cond b 1 3 + cond b 2 1 ≤ 4
@@ -234,9 +229,9 @@ module _ (R at left : ℕ) (a : Around) (places work : List ℕ) (to : ℕ) wher
 
 module _ {R : ℕ} {xs : List ℕ} {notes : List Note} {at left : ℕ} {a : Around} {places work : List ℕ} {to : ℕ} (N : Trimmable R xs notes at left a places work to) (some : left ≢ 0) where
   pub one_ready : {k : ℕ} {f : Statement → Statement} {inside : ℕ} → NotedOne R xs notes at left k f inside → (a' : Around) (places' : List ℕ) → a'.tries ≡ inside
-      → a'.tries ≤ a.tries + 1 → a'.kept ≤ a.kept + 1 → length places' ≡ length places → LowPlaces places' a'
+      → a'.tries ≤ a.tries + 1 → a'.kept ≤ a.kept + 1 → LowPlaces places' a'
       → Caught R places' a' (statement_at (left - 1) xs (at + 1)).statement → Trimmable R xs notes (at + 1) (left - 1) a' places' work to
-  one_ready o a' places' e t l wide low caught =
+  one_ready o a' places' e t l low caught =
       let next : (statement_at left xs at).next ≡ (statement_at (left - 1) xs (at + 1)).next = ap (λ (p : Placed). p.next) o.is in
       record {
         valid = subst (λ (n : ℕ). Valid n (statement_at (left - 1) xs (at + 1)).statement) (sym e) o.valid;
@@ -247,7 +242,6 @@ module _ {R : ℕ} {xs : List ℕ} {notes : List Note} {at left : ℕ} {a : Arou
         to_in = N.to_in;
         tries_in = let r = N.tries_in in omega arith;
         kept_in = let r = N.kept_in in omega arith;
-        wide = wide ∙ N.wide;
         low = low;
         caught = caught;
       }
@@ -274,7 +268,6 @@ module _ {R : ℕ} {xs : List ℕ} {notes : List Note} {at left : ℕ} {a : Arou
           to_in = N.to_in;
           tries_in = let r = N.tries_in in omega arith;
           kept_in = let r = N.kept_in in omega arith;
-          wide = N.wide;
           low = λ i h. let r = N.low i (omega arith) in omega arith;
           caught = caught;
         })
@@ -292,27 +285,22 @@ module _ {R : ℕ} {xs : List ℕ} {notes : List Note} {at left : ℕ} {a : Arou
           to_in = g;
           tries_in = let r = N.tries_in in omega arith;
           kept_in = let r = N.kept_in in omega arith;
-          wide = Q.long ∙ N.wide;
           low = λ i h. let r = N.low i h in let e = Q.same i (omega arith) in omega arith;
           caught = λ d h x. let r = caught d h x in let e = Q.same (a.tries - d) (omega arith) in omega arith;
         }
 
-  -- ---- the room and the depth that the last steps ask
+  -- ---- the room that the last steps ask
   ends_in : {t : Statement} {work₁ work₂ : List ℕ} {to₁ : ℕ} {v : Laid} → PartStands t work₁ to₁ v work₂ → v.from ≤ to₁
   ends_in M = let e = M.puts.from_is in omega arith
 
   pub one_room : {k : ℕ} {f : Statement → Statement} {inside : ℕ} → NotedOne R xs notes at left k f inside → {a' : Around} {places₁ places₂ work₁ : List ℕ} {v : Laid}
       → Done R (statement_at (left - 1) xs (at + 1)) (at + 1) (left - 1) a' places₁ work to v places₂ work₁
-      → (2 ≤ v.from) × (v.from ≤ 4096) × (v.depth ≤ 200)
+      → 2 ≤ v.from
   one_room o P =
       let next : (statement_at left xs at).next ≡ (statement_at (left - 1) xs (at + 1)).next = ap (λ (p : Placed). p.next) o.is in
       let r = N.room in
       let s = P.room in
-      let i = N.to_in in
-      let t = N.tries_in in
-      let d = P.shallow in
-      let e = ends_in P.made in
-      (omega arith, omega arith, omega arith)
+      omega arith
 
   module _ {k : ℕ} {f : Statement → Statement → Statement} (o : NotedTwo R xs notes at left k f a.tries) {a' : Around} {places₁ work₁ : List ℕ} {v : Laid}
       (Q : Done R (statement_at (left - 1) xs (mid o)) (mid o) (left - 1) a' places work to v places₁ work₁) where
@@ -322,12 +310,8 @@ module _ {R : ℕ} {xs : List ℕ} {notes : List Note} {at left : ℕ} {a : Arou
     second_ends : v.from ≤ to
     second_ends = ends_in Q.made
 
-    pub else_room : (3 ≤ v.from) × (v.from ≤ 4096) × (v.depth ≤ 200)
-    else_room =
-        let i = N.to_in in
-        let t = N.tries_in in
-        let d = Q.shallow in
-        (omega (arith, second_room, forward o), omega (arith, second_ends), omega arith)
+    pub else_room : 3 ≤ v.from
+    else_room = omega (arith, second_room, forward o)
 
     pub join_ready : Caught R places a (statement_at (left - 1) xs (at + 1)).statement → a'.tries ≡ a.tries → Trimmable R xs notes (at + 1) (left - 1) a places₁ work₁ v.from
     join_ready caught t =
@@ -335,14 +319,8 @@ module _ {R : ℕ} {xs : List ℕ} {notes : List Note} {at left : ℕ} {a : Arou
         first_ready o caught Q t v.from work₁ (omega arith) (omega (arith, second_ends))
 
     pub join_room : {places₂ work₂ : List ℕ} {u : Laid} → Done R (statement_at (left - 1) xs (at + 1)) (at + 1) (left - 1) a places₁ work₁ v.from u places₂ work₂
-        → (1 ≤ u.from) × (u.from ≤ 4096) × (u.depth ≤ 200) × (v.depth ≤ 200)
-    join_room P =
-        let i = N.to_in in
-        let t = N.tries_in in
-        let d = P.shallow in
-        let s = P.room in
-        let e = ends_in P.made in
-        (omega (arith, second_room), omega (arith, second_ends), omega arith, else_room.2)
+        → 1 ≤ u.from
+    join_room P = let s = P.room in omega (arith, second_room)
 
     module _ {z : Bool} {work₂ : List ℕ} {e : Laid} (E : ElseClosed a.started z work₁ v e work₂) where
       branch_ends : (b : Bool) (t : Statement) → Branch b t work to e work₂ → e.from ≤ to
@@ -369,14 +347,8 @@ module _ {R : ℕ} {xs : List ℕ} {notes : List Note} {at left : ℕ} {a : Arou
       four false = omega arith
 
       pub present_room : {places₂ work₃ : List ℕ} {u : Laid} → Done R (statement_at (left - 1) xs (at + 1)) (at + 1) (left - 1) a places₁ work₂ e.from u places₂ work₃
-          → (S : ℕ) → S ≤ 31 → (cond a.started 2 1 ≤ u.from) × (u.from ≤ 4096) × (u.depth ≤ 200) × (e.depth ≤ 200) × (S ≤ 31)
-      present_room P S h =
-          let i = N.to_in in
-          let t = N.tries_in in
-          let d = P.shallow in
+          → cond a.started 2 1 ≤ u.from
+      present_room P =
           let s = P.room in
           let n = E.near in
-          let m = E.shallow in
-          let q = Q.shallow in
-          let x = ends_in P.made in
-          (omega (arith, second_room, four a.started), omega (arith, else_ends), omega arith, omega arith, h)
+          omega (arith, second_room, four a.started)

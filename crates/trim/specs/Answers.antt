@@ -9,7 +9,7 @@ use Rattle.table.specs.Writing.{write}
 use Rattle.table.specs.declared.Refusal.{Refusal}
 use Rattle.trim.specs.declared.Written.{Written}
 
--- what is said of an answer of trim, case by case: the refusal; or the node count, the byte length, and the share that was kept
+-- what is said of an answer of trim: the refusal, or the node count, the byte length and the share that was kept
 unfoldable pub trimmed_outcome : Result Written Refusal → Outcome
 trimmed_outcome = outcome (λ written. written.nodes ∷ written.bytes ∷ written.share.thousandths ∷ written.share.remainder ∷ [])
 

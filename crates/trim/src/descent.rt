@@ -9,7 +9,8 @@ use crate::noted::Note;
 use crate::work::{Part, Work};
 use esterel::Level;
 
-// The places that are noted of try statements, by their numbers from 1: at most 59 stand around a statement.
+// The places that are noted of try statements, by their numbers from 1: at most 59 stand around a statement. How many of them are in
+// use stands in `Around`, which a branch takes a copy of and goes back to, where the places are written over.
 pub const PLACES: usize = 64;
 
 // What stands around a statement that is trimmed: whether it may be started, the try statements of the source, and how
@@ -86,7 +87,8 @@ pub struct Room {
     pub work: Work,
 }
 
-// What it reads: the nodes of the source, and their notes.
+// What it reads: the nodes of the source, and by the same index their notes. They are two arrays since `table::load` fills one of nodes
+// alone, and an entry for C has only its stack for a second copy beside the notes.
 #[derive(Clone, Copy)]
 pub struct Source<'a> {
     pub nodes: &'a [u16; table::MOST_NODES],
@@ -96,7 +98,9 @@ pub struct Source<'a> {
 impl Source<'_> {
     // Writes the trimmed statement at a place into the work area, in front of what stands there.
     // The second child is written first, so nothing is ever moved. Of a statement that is neither started nor live nothing is left; so
-    // a leaf past that test is kept: a pause is started or has its label in R, and the others are started, since they are never live.
+    // a leaf past that test is kept, but for nothing: a pause is started or has its label in R, and the others are started, since they are
+    // never live. A node with an operand is written as it is, but for an exit, which gets its level; the others are made anew, since
+    // loading promises nothing of an operand that they lack.
     pub fn trim_at(self, at: usize, left: usize, around: Around, room: &mut Room) -> Part
         requires { Trimmable (reach_set_of self.nodes.now) self.nodes.now self.notes.now at left around room.old.places room.old.work.nodes room.old.work.from }
         ensures { Done (reach_set_of self.entry.nodes.now) (statement_at left self.entry.nodes.now at) at left around
@@ -118,20 +122,17 @@ impl Source<'_> {
         // One decision over the kind numbers, with 11 to 15 as a refused range, as document 01 asks.
         match table::kind_of(node) {
             table::NOTHING => Part::NOTHING,
-            table::PAUSE => room.work.leaf(table::PAUSE, operand, 0),
-            table::GOTOPAUSE => room.work.leaf(table::GOTOPAUSE, operand, 0),
-            table::EMIT => {
-                room.work
-                    .leaf(table::EMIT, operand, sets::singleton(operand))
-            }
+            table::PAUSE => room.work.leaf(node, 0),
+            table::GOTOPAUSE => room.work.leaf(node, 0),
+            table::EMIT => room.work.leaf(node, sets::singleton(operand)),
             table::EXIT => {
                 let level = around.level_out(&room.places, Level(operand));
-                room.work.leaf(table::EXIT, level.0, 0)
+                room.work.leaf(table::node_of(table::EXIT, level.0), 0)
             }
             table::SIGNAL => {
                 let p = self.trim_at(first, below, around, room);
                 let named = sets::contains(p.named, operand);
-                room.work.wrap_if(p, named, table::SIGNAL, operand)
+                room.work.wrap_if(p, named, node)
             }
             table::PRESENT => {
                 let guarded = note.ends(false);
@@ -139,30 +140,30 @@ impl Source<'_> {
                 let q = self.trim_at(second, below, inner, room);
                 let e = room.work.close_else(q, b, guarded);
                 let p = self.trim_at(first, below, around, room);
-                room.work.close_present(p, e, b, operand)
+                room.work.close_present(p, e, b, node)
             }
             table::SEQUENCE => {
                 let inner = around.started_if(note.ends(b));
                 let q = self.trim_at(second, below, inner, room);
                 let p = self.trim_at(first, below, around, room);
-                room.work.join(p, q, table::SEQUENCE)
+                room.work.join(p, q, table::node_of(table::SEQUENCE, 0))
             }
             table::PARALLEL => {
                 let q = self.trim_at(second, below, around, room);
                 let p = self.trim_at(first, below, around, room);
-                room.work.join(p, q, table::PARALLEL)
+                room.work.join(p, q, table::node_of(table::PARALLEL, 0))
             }
             table::LOOP => {
                 let again = note.ends(b);
                 let inner = around.started_if(again | b);
                 let p = self.trim_at(first, below, inner, room);
-                room.work.wrap_if(p, again, table::LOOP, 0)
+                room.work.wrap_if(p, again, table::node_of(table::LOOP, 0))
             }
             table::TRY => {
                 let kept = note.ends(b);
                 let inner = around.in_try(&mut room.places, kept);
                 let p = self.trim_at(first, below, inner, room);
-                room.work.wrap_if(p, kept, table::TRY, 0)
+                room.work.wrap_if(p, kept, table::node_of(table::TRY, 0))
             }
             11..=15 => Part::REFUSED,
             _ => Part::REFUSED,

@@ -40,7 +40,7 @@ fn trim_nodes(
     room: &mut Room,
 ) -> Result<Part, Refusal>
     requires loaded { Loaded nodes.now }
-    requires lent { Lent notes.old room.old }
+    requires lent { Lent room.old }
     ensures { IsOkAnd result (λ part. Ends (trimmed (statement_of nodes.now)) (laid_at room.new.work.from part) room.new.work.nodes) }
 {
     let found = reach::settle(nodes)?;
@@ -84,7 +84,7 @@ fn finish(before: u16, work: &Work, part: Part, out: &mut [u8]) -> Result<Writte
     })
 }
 
-// Trim, with room lent for the nodes, what is noted of them, and what the descent writes.
+// Trim, with room lent for the nodes, what is noted of them, and what the descent writes: three, of which each step changes another.
 fn trim_with(
     table: &[u8],
     out: &mut [u8],
@@ -92,10 +92,11 @@ fn trim_with(
     notes: &mut [Note; table::MOST_NODES],
     room: &mut Room,
 ) -> Result<Written, Refusal>
-    requires { (length nodes.old ≡ 1024) × Known nodes.old × Lent notes.old room.old }
+    requires { Known nodes.old × Lent room.old }
     ensures { (trimmed_outcome result ≡ trim_of table.now (length out.old)) × (out.new ≡ buffer_of table.now out.old) }
 {
     let checked = table::load(table, nodes);
+    // Taken apart by let .. else and not by `?`, as document 01 asks.
     let Ok(before) = checked else {
         return Err(checked.unwrap_err());
     };

@@ -3,7 +3,7 @@
 ghost use Rattle.std.specs.Prelude.{◌≡◌, false, cond, ◌||◌, ◌*◌, ◌/◌, ◌≤◌, ◌<◌, eqb};
 ghost use Rattle.sets.specs.Set.{has};
 ghost use Rattle.esterel.specs.Statement.{pause, sequence, parallel, loop, try};
-ghost use Rattle.esterel.specs.Codes.{none, just_ended};
+ghost use Rattle.esterel.specs.Codes.{none, just_ended, join};
 ghost use Rattle.table.specs.inner.Places.{placed};
 ghost use Rattle.trim.specs.inner.Notes.{note_with};
 ghost use Rattle.trim.specs.inner.Marking.{no_exits, exit_at, either_of, exits_if, in_turn_of, again_of, outside_of};
@@ -143,6 +143,7 @@ impl Marked {
         }
     }
 
+    // The label is below 64, which its type doesn't say: a narrower one would ask more of those who make a label.
     fn pause(label: Label, r: u64, next: usize) -> Marked
         requires { label.0 < 64 }
         ensures { Finds r (placed (pause label.0) next) result }
@@ -157,7 +158,8 @@ impl Marked {
         }
     }
 
-    // By the kind of a node without children; the last arm is an exit.
+    // By the kind of a node without children; the last arm is an exit. Here and below, kinds are asked to be in range since document 01
+    // has them as numbers.
     fn without_child(kind: u16, operand: u8, r: u64, next: usize) -> Marked
         requires { LeafReady kind operand }
         ensures { LeafFound r kind operand next result }
@@ -200,17 +202,24 @@ impl Marked {
         }
     }
 
+    // Two statements, each of which goes on by itself, with the codes of both started.
+    fn of_both(s: CodeSet, p: Marked, q: Marked) -> Marked
+        ensures { result ≡ record { s = s; d = join p.d q.d; exits = either_of p.exits q.exits; live = p.live || q.live; next = q.next } }
+    {
+        Marked {
+            s,
+            d: p.d | q.d,
+            exits: p.exits | q.exits,
+            live: p.live | q.live,
+            next: q.next,
+        }
+    }
+
     // A present over two branches.
     fn or(self, q: Marked) -> Marked
         ensures { PresentFound self q result }
     {
-        Marked {
-            s: self.s | q.s,
-            d: self.d | q.d,
-            exits: self.exits | q.exits,
-            live: self.live | q.live,
-            next: q.next,
-        }
+        Marked::of_both(self.s | q.s, self, q)
     }
 
     fn then(self, q: Marked) -> Marked
@@ -230,13 +239,7 @@ impl Marked {
     fn beside(self, q: Marked) -> Marked
         ensures { TwoFound parallel self q result }
     {
-        Marked {
-            s: self.s.maximum(q.s),
-            d: self.d | q.d,
-            exits: self.exits | q.exits,
-            live: self.live | q.live,
-            next: q.next,
-        }
+        Marked::of_both(self.s.maximum(q.s), self, q)
     }
 
     // By the kind of a node with two children; the last arm is a parallel.
@@ -290,7 +293,8 @@ impl Marked {
 }
 
 // What is found of the statement at a place, which is resumed from labels of `r`; on the way each node gets its note. The arms
-// are ranges where kinds are noted alike, since a jump through a table of addresses was measured slower.
+// are ranges where kinds are noted alike, since a jump through a table of addresses was measured slower. Nodes, notes and `r` are handed on
+// apart: the notes are written and the nodes are not, so that a struct of them would be lent anew at every call.
 pub fn mark_at(
     nodes: &[u16; table::MOST_NODES],
     at: usize,
@@ -298,7 +302,7 @@ pub fn mark_at(
     notes: &mut [Note; table::MOST_NODES],
     r: u64,
 ) -> Marked
-    requires { Markable left nodes.now at notes.old }
+    requires { Markable left nodes.now at }
     ensures { Marks r nodes.now left at notes.old result notes.new }
 {
     if left == 0 || table::MOST_NODES <= at {

@@ -35,7 +35,8 @@ impl Ending {
     }
 }
 
-// The place of a second child, which stands after the first; whether the statement is live, so that something of it is left where
+// The place of a second child, which stands after the first, 0 where there is none and none is asked for, since an Option would make the
+// note six bytes of four; whether the statement is live, so that something of it is left where
 // it is only resumed; and what is known of its first or only child.
 #[derive(Clone, Copy, Debug, PartialEq, Eq)]
 pub struct Note {

@@ -1,9 +1,8 @@
 // The steps of trimming in the work area, which is filled from its end: a part is written right before what stands there,
 // the parent after its children, so nothing is ever moved.
-ghost use Rattle.std.specs.Prelude.{◌≡◌, ℕ, cond, ◌≤◌, eqb, length};
+ghost use Rattle.std.specs.Prelude.{◌≡◌, ℕ, cond, ◌≤◌, eqb};
 ghost use Rattle.sets.specs.Set.{has};
-ghost use Rattle.table.specs.Writing.{node};
-ghost use Rattle.trim.specs.inner.Parts.{laid_at, Shallow, Fitting, PutAt, LeafPut, NothingFilled, Wrapped, PartsJoined, ElseClosed, PresentClosed};
+ghost use Rattle.trim.specs.inner.Parts.{laid_at, Shallow, PutAt, LeafPut, NothingFilled, Wrapped, PartsJoined, ElseClosed, PresentClosed};
 
 use esterel::Level;
 
@@ -14,12 +13,12 @@ pub const END: usize = 4096;
 // is counted and not held, since its table is refused.
 pub const HELD: usize = 3072;
 
-// A number that no signal has: it is among those that a part names where a node of no kind was met. (A Result of a part made
-// trimming up to 20 % slower.)
+// A number that no signal has: it is among those that a part names where a node of no kind was met. (A Result or an Option of a part
+// made trimming up to 21 % slower.)
 const REFUSED: u8 = 63;
 
 // A trimmed part in the work area: its depth, and the signals that its emits and presents name. A part that is nothing has no
-// node, and depth 0.
+// node, so that its depth is 0: an Option of a part would only say so again.
 #[derive(Clone, Copy, Debug, PartialEq, Eq)]
 pub struct Part {
     pub depth: u16,
@@ -55,29 +54,28 @@ pub struct Work {
     pub nodes: [u16; table::MOST_NODES],
     pub from: usize,
     ghost within: { from ≤ 4096 },
-    ghost full: { length nodes ≡ 1024 },
 }
 
+// Each contract bounds the room and the depths itself: a step takes room and makes a part deeper, so that no type can keep a bound on
+// them. Only what is left of the descent gives it.
 impl Work {
-    // One node in front of what stands there. Its operand is in the range of its kind, so `node_of` leaves it as it is.
-    fn put(&mut self, kind: u16, operand: u8)
-        requires room { 1 ≤ self.old.from }
-        requires fitting { Fitting kind operand }
-        ensures { PutAt self.old.nodes self.old.from (node kind operand) self.new.from self.new.nodes }
+    // One node in front of what stands there.
+    fn put(&mut self, node: u16)
+        requires { 1 ≤ self.old.from }
+        ensures { PutAt self.old.nodes self.old.from node self.new.from self.new.nodes }
     {
         self.from -= 1;
         if HELD <= self.from {
-            self.nodes[self.from - HELD] = table::node_of(kind, operand);
+            self.nodes[self.from - HELD] = node;
         }
     }
 
     // A statement of one node.
-    pub fn leaf(&mut self, kind: u16, operand: u8, named: u64) -> Part
-        requires room { 1 ≤ self.old.from }
-        requires fitting { Fitting kind operand }
-        ensures { LeafPut (node kind operand) named self.old.nodes self.old.from (laid_at self.new.from result) self.new.nodes }
+    pub fn leaf(&mut self, node: u16, named: u64) -> Part
+        requires { 1 ≤ self.old.from }
+        ensures { LeafPut node named self.old.nodes self.old.from (laid_at self.new.from result) self.new.nodes }
     {
-        self.put(kind, operand);
+        self.put(node);
         Part { depth: 1, named }
     }
 
@@ -87,24 +85,23 @@ impl Work {
         ensures { NothingFilled self.old.nodes (laid_at self.old.from p) (laid_at self.new.from result) self.new.nodes }
     {
         if p.is_nothing() {
-            self.put(table::NOTHING, 0);
+            self.put(table::node_of(table::NOTHING, 0));
             return Part { depth: 1, ..p };
         }
         p
     }
 
     // The part alone, or a statement over it.
-    pub fn wrap_if(&mut self, p: Part, wrap: bool, kind: u16, operand: u8) -> Part
+    pub fn wrap_if(&mut self, p: Part, wrap: bool, node: u16) -> Part
         requires room { 2 ≤ self.old.from }
         requires shallow { Shallow p }
-        requires fitting { Fitting kind operand }
-        ensures { Wrapped (node kind operand) wrap self.old.nodes (laid_at self.old.from p) (laid_at self.new.from result) self.new.nodes }
+        ensures { Wrapped node wrap self.old.nodes (laid_at self.old.from p) (laid_at self.new.from result) self.new.nodes }
     {
         if !wrap {
             return p;
         }
         let whole = self.fill(p);
-        self.put(kind, operand);
+        self.put(node);
         Part {
             depth: whole.depth + 1,
             ..whole
@@ -112,11 +109,10 @@ impl Work {
     }
 
     // Two parts, one before the other; one that is nothing is dropped.
-    pub fn join(&mut self, p: Part, q: Part, kind: u16) -> Part
+    pub fn join(&mut self, p: Part, q: Part, node: u16) -> Part
         requires room { 1 ≤ self.old.from }
         requires shallow { Shallow p × Shallow q }
-        requires fitting { Fitting kind 0 }
-        ensures { (mid : ℕ) → PartsJoined (node kind 0) self.old.nodes (laid_at self.old.from p) (laid_at mid q) (laid_at self.new.from result) self.new.nodes }
+        ensures { (mid : ℕ) → PartsJoined node self.old.nodes (laid_at self.old.from p) (laid_at mid q) (laid_at self.new.from result) self.new.nodes }
     {
         if p.is_nothing() {
             return q;
@@ -124,7 +120,7 @@ impl Work {
         if q.is_nothing() {
             return p;
         }
-        self.put(kind, 0);
+        self.put(node);
         Part {
             depth: p.depth.max(q.depth) + 1,
             named: p.named | q.named,
@@ -147,9 +143,9 @@ impl Work {
             return q;
         }
         let nearest = Level(1);
-        self.put(table::EXIT, nearest.0);
-        self.put(table::SEQUENCE, 0);
-        self.put(table::TRY, 0);
+        self.put(table::node_of(table::EXIT, nearest.0));
+        self.put(table::node_of(table::SEQUENCE, 0));
+        self.put(table::node_of(table::TRY, 0));
         Part {
             depth: q.depth + 2,
             ..q
@@ -157,18 +153,18 @@ impl Work {
     }
 
     // A present over its branches, or what is left of it where it is only resumed.
-    pub fn close_present(&mut self, p: Part, q: Part, started: bool, signal: u8) -> Part
+    pub fn close_present(&mut self, p: Part, q: Part, started: bool, node: u16) -> Part
         requires room { cond started 2 1 ≤ self.old.from }
         requires shallow { Shallow p × Shallow q }
-        requires fitting { signal ≤ 31 }
-        ensures { (mid : ℕ) → PresentClosed started signal self.old.nodes (laid_at self.old.from p) (laid_at mid q) (laid_at self.new.from result) self.new.nodes }
+        ensures { (mid : ℕ) → PresentClosed started node self.old.nodes (laid_at self.old.from p) (laid_at mid q) (laid_at self.new.from result) self.new.nodes }
     {
         if !started {
-            return self.join(p, q, table::SEQUENCE);
+            return self.join(p, q, table::node_of(table::SEQUENCE, 0));
         }
         let whole = self.fill(p);
+        let signal = table::operand_of(node);
         let named = whole.named | q.named | sets::singleton(signal);
-        self.put(table::PRESENT, signal);
+        self.put(node);
         Part {
             depth: whole.depth.max(q.depth) + 1,
             named,

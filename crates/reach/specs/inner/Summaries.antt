@@ -13,7 +13,8 @@ use Rattle.reach.specs.inner.CodeSets.{followed_by}
 abbrev pub resumed_from : List Codes → ℕ → Codes
 resumed_from kept l = get_or kept l none
 
--- what is kept for the labels of a set was changed by F, and nothing else
+-- what is kept for the labels of a set was changed by F, and nothing else. The size is said since nothing tells a loop the length of
+-- an array that it changes
 pub record Changed (set : ℕ) (F : Codes → Codes) (kept kept' : List Codes) : Type 0 where
   pub size : length kept' ≡ length kept
   pub each : (l : ℕ) → l < 64 → resumed_from kept' l ≡ cond (has set l) (F (resumed_from kept l)) (resumed_from kept l)
@@ -54,7 +55,6 @@ EndsAlone E p = (l : ℕ) → l < 64 → has E l ≡ (has (pauses p) l && (d (on
 pub record Summable (left : ℕ) (nodes : List ℕ) (at : ℕ) : Type 0 where
   pub tries : ℕ
   pub valid : Valid tries (statement_at left nodes at).statement
-  pub all : length nodes ≡ 1024
   pub known : Known nodes
 
 -- the summary is that of p
@@ -63,7 +63,6 @@ pub record Summarised (p : Placed) (found : Summary) (kept kept' : List Codes) :
   pub labels : found.pauses ≡ pauses p.statement
   pub ending : EndsAlone found.ending p.statement
   pub next : found.next ≡ p.next
-  pub size : length kept' ≡ length kept
   pub resumed : (l : ℕ) → l < 64 → resumed_from kept' l ≡ cond (has (pauses p.statement) l) (d (only l) p.statement) (resumed_from kept l)
 
 -- the pass refuses no node, and has found the summary of p

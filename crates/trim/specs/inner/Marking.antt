@@ -1,5 +1,5 @@
 -- What marking finds of each statement, and the notes that it leaves.
-use Rattle.std.specs.Prelude.{ℕ, suc, ◌*◌, ◌/◌, ◌%◌, ◌^◌, ◌≤◌, ◌<◌, ◌≡◌, Bool, true, false, cond, List, length, get_or}
+use Rattle.std.specs.Prelude.{ℕ, suc, ◌*◌, ◌/◌, ◌%◌, ◌^◌, ◌≤◌, ◌<◌, ◌≡◌, Bool, true, false, cond, List, get_or}
 use Rattle.std.specs.Int.Bits.{bit_or}
 use Rattle.sets.specs.Set.{has, only}
 use Rattle.esterel.specs.Statement.{Statement, present, Valid}
@@ -86,17 +86,14 @@ PartsFound kind p q m =
 
 -- ---- the pass
 
--- what it asks of the statement at a place: that it is valid, in so many tries, with nodes of known kinds; and room
-pub record Markable (left : ℕ) (nodes : List ℕ) (at : ℕ) (notes : List Note) : Type 0 where
+-- what it asks of the statement at a place: that it is valid, in so many tries, with nodes of known kinds
+pub record Markable (left : ℕ) (nodes : List ℕ) (at : ℕ) : Type 0 where
   pub tries : ℕ
   pub valid : Valid tries (statement_at left nodes at).statement
-  pub all : length nodes ≡ 1024
   pub known : Known nodes
-  pub room : length notes ≡ 1024
 
 -- what it leaves: the notes of the statement, and those before it as they were
 pub record Marks (R : ℕ) (nodes : List ℕ) (left at : ℕ) (notes : List Note) (m : Marked) (notes' : List Note) : Type 0 where
   pub finds : Finds R (statement_at left nodes at) m
   pub noted : Noted R notes' nodes left at
-  pub size : length notes' ≡ length notes
   pub low : (i : ℕ) → i < at → get_or notes' i no_note ≡ get_or notes i no_note

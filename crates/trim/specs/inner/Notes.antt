@@ -15,7 +15,7 @@ use Rattle.trim.specs.declared.noted.Note.{Note}
 unfoldable pub live : ℕ → Statement → Bool
 live R p = not (eqb (pauses p intersect R) 0)
 
--- ---- a note: a place and two flags, of the statement and of its child
+-- ---- a note: a place, a flag of the statement, and what is known of its child
 
 -- from whether something holds where the statement is only resumed, and where it may be started
 abbrev pub ending_of : Bool → Bool → Ending

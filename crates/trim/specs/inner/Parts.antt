@@ -5,8 +5,8 @@ use Rattle.sets.specs.Set.{has}
 use Rattle.esterel.specs.Statement.{Statement, present, sequence, depth, Valid}
 use Rattle.esterel.specs.Reachability.{reach}
 use Rattle.esterel.specs.Trimming.{is_nothing, names, ends_at, join_parts, trim}
-use Rattle.table.specs.Kinds.{kind_of, row_of}
-use Rattle.table.specs.Writing.{nodes}
+use Rattle.table.specs.Reading.{operand_of}
+use Rattle.table.specs.Writing.{nodes, node}
 use Rattle.table.specs.inner.Places.{Placed, statement_at, statement_of, Known}
 use Rattle.trim.specs.declared.descent.Around.{Around}
 use Rattle.trim.specs.declared.work.Part.{Part}
@@ -36,7 +36,7 @@ pub record Laid : Type 0 where
 abbrev pub laid_at : ℕ → Part → Laid
 laid_at from p = record { from = from; depth = p.depth; named = p.named }
 
--- depths stay far below what a part's field can hold
+-- depths stay far below what a part's field can hold. No type keeps that, since each step makes a deeper part
 abbrev pub Shallow : Part → Type 0
 Shallow p = p.depth ≤ 200
 
@@ -59,12 +59,6 @@ WholeStands t = NodesStand (nodes t) (depth t) t
 
 abbrev pub nothing_at : ℕ → Laid
 nothing_at to = record { from = to; depth = 0; named = 0 }
-
--- a kind, and an operand in its range
-pub record Fitting (kind operand : ℕ) : Type 0 where
-  pub kind_in : kind < 16
-  pub least : (row_of (kind_of kind)).least ≤ operand
-  pub most : operand ≤ (row_of (kind_of kind)).most
 
 -- ---- statements by their nodes
 
@@ -141,9 +135,9 @@ pub record ElseClosed (started z : Bool) (work : List ℕ) (q r : Laid) (work' :
   pub near : q.from ≤ r.from + cond started 1 3
   pub shallow : r.depth ≤ q.depth + 2
 
-pub record PresentClosed (started : Bool) (S : ℕ) (work : List ℕ) (p q r : Laid) (work' : List ℕ) : Type 0 where
-  pub made : (s t : Statement) (before between : List ℕ) (to : ℕ) → to ≤ 4096
-      → Branch started t before to q between → PartStands s between q.from p work → PartStands (present_if started S s t) before to r work'
+pub record PresentClosed (started : Bool) (x : ℕ) (work : List ℕ) (p q r : Laid) (work' : List ℕ) : Type 0 where
+  pub made : (s t : Statement) (before between : List ℕ) (to : ℕ) → x ≡ node 6 (operand_of x) → to ≤ 4096
+      → Branch started t before to q between → PartStands s between q.from p work → PartStands (present_if started (operand_of x) s t) before to r work'
   pub near : p.from ≤ r.from + cond started 2 1
   pub shallow : r.depth ≤ max (p.depth + 1) q.depth + 1
 
@@ -157,7 +151,8 @@ Caught R places a p = (d : ℕ) → d < a.tries → ends_at d (trim R a.started 
 unfoldable pub reach_set_of : List ℕ → ℕ
 reach_set_of xs = (reach (statement_of xs)).set
 
--- what trimming the statement at a place asks: 4 nodes of room for each node
+-- what trimming the statement at a place asks: 4 nodes of room for each node. `all` stands here since nothing tells the length of an
+-- array that a field of a struct refers to: without it the proof doesn't close
 pub record Trimmable (R : ℕ) (xs : List ℕ) (notes : List Note) (at left : ℕ) (a : Around) (places work : List ℕ) (to : ℕ) : Type 0 where
   pub valid : Valid a.tries (statement_at left xs at).statement
   pub noted : Noted R notes xs left at
@@ -167,7 +162,6 @@ pub record Trimmable (R : ℕ) (xs : List ℕ) (notes : List Note) (at left : �
   pub to_in : to ≤ 4096
   pub tries_in : a.tries + left ≤ 60
   pub kept_in : a.kept + left ≤ 60
-  pub wide : length places ≡ 64
   pub low : (i : ℕ) → i ≤ a.tries → get_or places i 0 ≤ a.kept
   pub caught : Caught R places a (statement_at left xs at).statement
 
@@ -177,4 +171,3 @@ pub record Done (R : ℕ) (p : Placed) (at left : ℕ) (a : Around) (places work
   pub room : to + 4 * at ≤ r.from + 4 * p.next
   pub shallow : r.depth ≤ 3 * left
   pub same : (i : ℕ) → i ≤ a.tries → get_or places' i 0 ≡ get_or places i 0
-  pub long : length places' ≡ length places

@@ -4,7 +4,6 @@ use Rattle.esterel.specs.Statement.{Statement, size, depth}
 use Rattle.table.specs.Bits.{Below}
 use Rattle.table.specs.Outcomes.{buffer_after}
 use Rattle.table.specs.Writing.{nodes, write}
-use Rattle.trim.specs.declared.noted.Note.{Note}
 use Rattle.trim.specs.declared.descent.Room.{Room}
 use Rattle.trim.specs.inner.Parts.{Laid}
 use Rattle.table.specs.declared.Refusal.{Refusal}
@@ -12,9 +11,7 @@ use Rattle.trim.specs.declared.Written.{Written}
 use Rattle.trim.specs.Answers.{trimmed_outcome, trim_for}
 
 -- room for trimming the nodes of a table
-pub record Lent (notes : List Note) (room : Room) : Type 0 where
-  pub notes_are : length notes ≡ 1024
-  pub places_are : length room.places ≡ 64
+pub record Lent (room : Room) : Type 0 where
   pub outermost : get_or room.places 0 0 ≡ 0
   pub whole : room.work.from ≡ 4096
 
@@ -28,7 +25,6 @@ pub record Ends (q : Statement) (part : Laid) (work : List ℕ) : Type 0 where
 pub record EndFits (part : Laid) (work : List ℕ) : Type 0 where
   pub within : part.from < 4096
   pub not_all : part.from ≢ 0
-  pub long : length work ≡ 1024
   pub fields : 3072 ≤ part.from → Below 1024 (drop (part.from - 3072) work)
 
 -- the end of trimming a table of n nodes, whatever statement stands there

@@ -3,26 +3,13 @@ use mathlib.Core.Path.{sym, ap, ◌∙◌}
 use Prim.Native.Nat.{◌*◌, ◌/◌, ◌^◌, ◌<◌}
 use native.Mathlib.Nat.{mod-eq_of_lt, div-mul-le_self, lt_of_le_of_lt}
 use native.Mathlib.Omega.{arith}
-use lib.Count.{count_trailing_zeros, trailing_le}
+use lib.Count.{count_trailing_zeros}
 use Rattle.reach.proofs.CodeSets.{shift_not_below, not_below_empty}
-use Rattle.sets.proofs.Members.{least_within}
 use Rattle.esterel.specs.Codes.{not_below}
 use Rattle.reach.proofs.codes.not_below.Goals as goal
 
 pub returns-then-b-eq0 : goal.returns-then-b-eq0
 returns-then-b-eq0 c = sym (ap (not_below c.args.a c.args.a) c.if-b-eq0.true ∙ not_below_empty c.args.a c.args.a)
-
-pub overflow_cast-result : goal.overflow_cast-result
-overflow_cast-result c = omega (arith, trailing_le 64 c.args.b)
-
-pub overflow_shr-result : goal.overflow_shr-result
-overflow_shr-result c = least_within 64 c.args.b c.ranges.b.fits c.if-b-eq0.false
-
-pub overflow_cast-result-2 : goal.overflow_cast-result-2
-overflow_cast-result-2 c = omega (arith, trailing_le 64 c.args.b)
-
-pub overflow_shl-result : goal.overflow_shl-result
-overflow_shl-result c = least_within 64 c.args.b c.ranges.b.fits c.if-b-eq0.false
 
 pub returns : goal.returns
 returns c =

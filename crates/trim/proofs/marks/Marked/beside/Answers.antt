@@ -5,4 +5,4 @@ use Rattle.trim.proofs.marks.Marked.beside.Goals as goal
 
 pub returns : goal.returns
 returns c =
-    λ R P Q F G. found_parallel R P Q F G _ refl refl c.maximum.ensures c.bitor.ensures c.bitor-2.ensures
+    rw c.of_both.ensures (λ R P Q F G. found_parallel R P Q F G _ refl refl c.maximum.ensures refl refl)

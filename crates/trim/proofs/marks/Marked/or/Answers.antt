@@ -5,4 +5,4 @@ use Rattle.trim.proofs.marks.Marked.or.Goals as goal
 
 pub returns : goal.returns
 returns c =
-    λ S R P Q F G. found_present R P Q F G _ refl refl S c.bitor.ensures c.bitor-2.ensures c.bitor-3.ensures
+    rw c.of_both.ensures (λ S R P Q F G. found_present R P Q F G _ refl refl S c.bitor.ensures refl refl)
