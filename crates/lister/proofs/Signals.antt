@@ -2,7 +2,7 @@
 -- else with the signal unknown; or, where that gave up, with it present and with it absent.
 use mathlib.Core.Path.{◌≡◌, refl, sym, ap, ap₂, ◌∙◌, subst}
 use mathlib.Core.Bool.{Bool, true, false, not, ◌&&◌, cond, true≢false}
-use mathlib.Core.List.{List, ◌++◌}
+use mathlib.Core.List.{List}
 use mathlib.Core.Option.{none}
 use Prim.Native.Nat.{ℕ, ◌+◌}
 use lib.Dec.{eqb}
@@ -16,7 +16,7 @@ use Rattle.esterel.specs.Reactions.{State, start}
 use Rattle.esterel.specs.Trimming.{names}
 use Rattle.esterel.specs.inner.Conditions.{slot_of}
 use Rattle.esterel.specs.inner.Rows.{each_row, local_row, local_rows, hide_rows}
-use Rattle.esterel.specs.inner.CappedRows.{CappedRows, change_rows, join_rows, otherwise, given_up, twice_rows, capped_rows}
+use Rattle.esterel.specs.inner.CappedRows.{CappedRows, change_rows, otherwise, given_up, twice_rows, capped_rows}
 use Rattle.table.specs.Reading.{kind_of_node, operand_of}
 use Rattle.table.specs.inner.Places.{Placed}
 use Rattle.rows.specs.declared.row.Row.{Row as Packed}
@@ -28,7 +28,7 @@ use Rattle.rows.proofs.Rules.{change_hide, change_local}
 use Rattle.lister.specs.declared.noted.Noted.{Noted}
 use Rattle.lister.specs.declared.presence.Presence.{Presence}
 use Rattle.lister.specs.inner.Notes.{part_at, ReadWhole}
-use Rattle.lister.specs.inner.Joins.{rows_under, Altered, is_over}
+use Rattle.lister.specs.inner.Joins.{rows_under, present_rows, absent_rows, twice, Altered, is_over}
 use Rattle.lister.proofs.Nodes.{is_signal}
 use Rattle.rows.proofs.Merges.{made_as}
 use Rattle.lister.proofs.Joins.{changed, changed_as}
@@ -77,23 +77,16 @@ module _ (g : Presence) (S : ℕ) (p : Statement) (x : State) where
   pub not_tried : has g.slotted S ≡ false → attempted g S p x ≡ none
   not_tried h = ap (λ (z : Bool). cond z (change_rows (local_rows S (slot_of g.slotted S)) (capped_rows g.slotted p x g.assumed (g.unknown union only S))) none) h
 
-  -- S is present, and its emission is hidden; and S is absent
-  abbrev pub present_rows : CappedRows
-  present_rows = change_rows (hide_rows S) (capped_rows g.slotted p x (g.assumed union only S) 0)
-
-  abbrev pub absent_rows : CappedRows
-  absent_rows = capped_rows g.slotted p x (g.assumed without S) 0
-
   pub present_is : g.unknown ≡ 0 → (on : Presence) → on.slotted ≡ g.slotted → on.assumed ≡ g.assumed union only S → on.unknown ≡ g.unknown without S
-      → change_rows (λ ws. each_row ws (hide_row S)) (rows_under on p x) ≡ present_rows
+      → change_rows (λ ws. each_row ws (hide_row S)) (rows_under on p x) ≡ present_rows g S p x
   present_is e on slotted assumed unknown = changed_as (rows_under on p x) (λ ws i. change_hide S ws) ∙ ap (change_rows (hide_rows S)) (under_as on p x slotted assumed (unknown ∙ known_still S e))
 
-  pub absent_is : g.unknown ≡ 0 → (off : Presence) → off.slotted ≡ g.slotted → off.assumed ≡ g.assumed without S → off.unknown ≡ g.unknown without S → rows_under off p x ≡ absent_rows
+  pub absent_is : g.unknown ≡ 0 → (off : Presence) → off.slotted ≡ g.slotted → off.assumed ≡ g.assumed without S → off.unknown ≡ g.unknown without S → rows_under off p x ≡ absent_rows g S p x
   absent_is e off slotted assumed unknown = under_as off p x slotted assumed (unknown ∙ known_still S e)
 
 -- with S present and with S absent, where no signal is unknown; else given up
 abbrev exactly : Presence → ℕ → Statement → State → CappedRows
-exactly g S p x = cond (eqb g.unknown 0) (join_rows ◌++◌ (present_rows g S p x) (absent_rows g S p x)) (given_up x p)
+exactly g S p x = cond (eqb g.unknown 0) (twice g S p x) (given_up x p)
 
 module _ (s : Noted) {at : ℕ} (w : ReadWhole s.count s.nodes at) (e : kind_of_node (get_or s.nodes at 0) ≡ 5) (S : ℕ) (f : S ≡ operand_of (get_or s.nodes at 0)) (x : State) (g : Presence) where
   abbrev body : Statement
@@ -130,7 +123,7 @@ module _ (s : Noted) {at : ℕ} (w : ReadWhole s.count s.nodes at) (e : kind_of_
       exact_is = by_name true h ∙ ap (λ (z : CappedRows). otherwise z (exactly g S body x)) gave
 
       pub passed_rows : (g.unknown ≡ 0 → ⊥) → given_up x body ≡ none → rows_under g (part_at s.nodes at) x ≡ none
-      passed_rows k z = exact_is ∙ ap (λ (b : Bool). cond b (join_rows ◌++◌ (present_rows g S body x) (absent_rows g S body x)) (given_up x body)) (ne_eqb g.unknown 0 k) ∙ z
+      passed_rows k z = exact_is ∙ ap (λ (b : Bool). cond b (twice g S body x) (given_up x body)) (ne_eqb g.unknown 0 k) ∙ z
 
-      pub twice_rows_here : g.unknown ≡ 0 → join_rows ◌++◌ (present_rows g S body x) (absent_rows g S body x) ≡ rows_under g (part_at s.nodes at) x
-      twice_rows_here k = ap (λ (b : Bool). cond b (join_rows ◌++◌ (present_rows g S body x) (absent_rows g S body x)) (given_up x body)) (sym (eq-eqb g.unknown 0 k)) ∙ sym exact_is
+      pub twice_rows_here : g.unknown ≡ 0 → twice g S body x ≡ rows_under g (part_at s.nodes at) x
+      twice_rows_here k = ap (λ (b : Bool). cond b (twice g S body x) (given_up x body)) (sym (eq-eqb g.unknown 0 k)) ∙ sym exact_is

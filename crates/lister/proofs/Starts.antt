@@ -4,7 +4,7 @@ use mathlib.Core.Bool.{Bool, true, false, cond, true≢false}
 use lib.Dec.{eqb}
 use mathlib.Core.List.{List, [], ◌∷◌, ◌++◌}
 use mathlib.Core.Option.{some}
-use Prim.Native.Nat.{ℕ, zero, suc, ◌+◌, ◌%◌, ◌^◌, ◌≤◌, ◌<◌}
+use Prim.Native.Nat.{ℕ, zero, suc, ◌+◌, ◌*◌, ◌%◌, ◌^◌, ◌≤◌, ◌<◌}
 use native.Mathlib.Omega.{arith}
 use lib.ListN.{get_or}
 use Rattle.sets.specs.Set.{has, only}
@@ -118,9 +118,9 @@ module _ (s : Noted) {at : ℕ} (w : ReadWhole s.count s.nodes at) where
   pub parallel_at : kind_of_node node ≡ 8 → part_at s.nodes at ≡ parallel first second
   parallel_at e = two_at (is_parallel w e)
 
--- a child's measure falls, and its list needs less room
-pub child_falls : {n : ℕ} {xs : List ℕ} {at i t : ℕ} → depth (part_at xs at) ≡ t → Child n xs at i → depth (part_at xs i) < t
-child_falls e k = omega (arith, e, k.less)
+-- a call on a child: its measure is below, and its statement stands whole; its list needs less room
+pub child_called : {n t : ℕ} {xs : List ℕ} {at i : ℕ} → 3 * depth (part_at xs at) ≤ t → Child n xs at i → (3 * depth (part_at xs i) + 2 < t) × ReadWhole n xs i
+child_called h k = (omega (arith, h, k.less), k.whole)
 
 module _ {n : ℕ} {xs : List ℕ} {at i : ℕ} (k : Child n xs at i) where
   pub less_room : 64 + room_for (part_at xs i) ≤ room_for (part_at xs at)
@@ -240,9 +240,10 @@ module _ (g : Presence) (S : ℕ) where
   emit_none e f = sym (by_signal false false e f)
 
   module _ (w : ℕ) (h : S < 64) (f : w ≡ only S % 2 ^ 64) (row : Row) where
-    pub emit_one : has g.unknown S ≡ false → has g.assumed S ≡ true → row ≡ row_when (condition 0 0) (reaction w 0 0) → some (row ∷ []) ≡ rows_under g (emit S) start
+    pub emit_one : (d : Condition) → has g.unknown S ≡ false → has g.assumed S ≡ true → d ≡ always → row ≡ row_when d (reaction w 0 0) → some (row ∷ []) ≡ rows_under g (emit S) start
     unfolding always
-    emit_one e k i = ap (λ (r : Row). some (r ∷ [])) (i ∙ ap (λ (y : ℕ). row_when (condition 0 0) (reaction y 0 0)) (f ∙ only_fits 64 S h)) ∙ by_signal false true e k
+    emit_one d e k j i =
+        ap (λ (r : Row). some (r ∷ [])) (i ∙ ap₂ (λ (c : Condition) (y : ℕ). row_when c (reaction y 0 0)) j (f ∙ only_fits 64 S h)) ∙ by_signal false true e k
 
     pub emit_unknown : (l : ℕ) (d : Condition) → has g.unknown S ≡ true → l ≡ slot_of g.slotted S → d ≡ condition (only l) 0 → row ≡ row_when d (reaction w 0 0)
         → some (row ∷ []) ≡ rows_under g (emit S) start

@@ -55,7 +55,7 @@ impl Note {
 }
 
 // Decoded nodes, of which the first `count` are those of a table, and the notes of the statements that begin at them. The nodes are
-// an array of their own, since loading a table fills a slice of nodes.
+// an array of their own, since loading a table fills an array of nodes.
 #[derive(Drop)]
 pub struct Noted {
     pub nodes: [u16; MOST_NODES],

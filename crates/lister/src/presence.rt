@@ -62,5 +62,5 @@ pub fn slot_of(slotted: u64, signal: u8) -> u8
 {
     let own = sets::singleton(signal);
     let below = own - 1;
-    u64::count_ones(slotted & below) as u8
+    sets::count(slotted & below)
 }

@@ -4,7 +4,7 @@ use Rattle.std.specs.List.{list_any}
 use Rattle.sets.specs.Set.{has, ◌without◌}
 use Rattle.esterel.specs.Codes.{through}
 use Rattle.esterel.specs.Listing.{reaction, some_ends}
-use Rattle.esterel.specs.inner.Conditions.{forget}
+use Rattle.esterel.specs.inner.Conditions.{Condition, forget}
 use Rattle.esterel.specs.inner.Rows.{Row, row_when, local_row, reactions}
 use Rattle.rows.specs.declared.row.Row.{Row as Packed}
 use Rattle.rows.specs.inner.Layout.{unpacked}
@@ -17,6 +17,13 @@ through_below zero = omega arith
 through_below (suc zero) = omega arith
 through_below (suc (suc zero)) = omega arith
 through_below (suc (suc (suc k))) = omega arith
+
+-- of the condition c of w
+pub rest_as : (w : Row) (s : ℕ) {y : Row} {c d : Condition} → y ≡ row_when d w.reacts → d ≡ forget s c → c ≡ w.when → y ≡ row_when (forget s w.when) w.reacts
+rest_as w s e f g = e ∙ ap (λ (z : Condition). row_when z w.reacts) (f ∙ ap (forget s) g)
+
+pub needs_as : (s : ℕ) {c k : Condition} {b d : Bool} → c ≡ k → b ≡ has c.on s → b ≡ d → has k.on s ≡ d
+needs_as s e f g = sym (ap (λ (z : Condition). has z.on s) e) ∙ sym f ∙ g
 
 module _ (S o : ℕ) (w : Row) (e : o ≡ w.reacts.emitted) where
   emits : (b : Bool) → has o S ≡ b → has w.reacts.emitted S ≡ b
@@ -59,3 +66,6 @@ pub any_ends : (a : List Packed) → list_any (λ r. eqb (unpacked r).reacts.cod
 unfolding some_ends reactions
 any_ends [] = refl
 any_ends (r ∷ a) = ap (λ (b : Bool). eqb (unpacked r).reacts.code 0 || b) (any_ends a)
+
+-- what the changes of the code are shown by
+pub ruleset change_laws = (through_below, caught_one, hide_none, hide_one)

@@ -134,38 +134,26 @@ lt_before a b = ap (is_some_and is_lt) (partial_both (nat_cmp a.word b.word) (na
     go Greater h = sym (row_asym (unpacked b) (unpacked a) h)
 
 -- ---- a row put together
-pub put_together : (o k d l : ℕ) → k < 256 → unpacked_words ((o * 256 + k) * 2 ^ 24 + d % 2 ^ 24) l ≡ row_when (condition_in d) (reaction o k l)
+pub put_together : (o k d l : ℕ) (c : Condition) → k < 256 → d < 2 ^ 24 → condition_in d ≡ c → unpacked_words ((o * 256 + k) * 2 ^ 24 + d) l ≡ row_when c (reaction o k l)
 unfolding unpacked_words
-put_together o k d l b =
-    let x : ℕ = (o * 256 + k) * 2 ^ 24 + d % 2 ^ 24 in
+put_together o k d l c b h is =
+    let x : ℕ = (o * 256 + k) * 2 ^ 24 + d in
     let e : x / 2 ^ 32 ≡ o = omega arith in
     let g : x / 2 ^ 24 % 256 ≡ k = omega arith in
     let i : x / 2 ^ 12 % 2 ^ 12 ≡ d / 2 ^ 12 % 2 ^ 12 = omega arith in
     let j : x % 2 ^ 12 ≡ d % 2 ^ 12 = omega arith in
-    λ n. row_when (condition (i n) (j n)) (reaction (e n) (g n) l)
+    ap (λ (z : Condition). row_when z (reaction (x / 2 ^ 32) (x / 2 ^ 24 % 256) l)) ((λ n. condition (i n) (j n)) ∙ is) ∙ (λ n. row_when c (reaction (e n) (g n) l))
 
 pub row_equal : {c d : Condition} {o p k m l n : ℕ} → c ≡ d → o ≡ p → k ≡ m → l ≡ n → row_when c (reaction o k l) ≡ row_when d (reaction p m n)
 row_equal c o k l = λ i. row_when (c i) (reaction (o i) (k i) (l i))
 
 -- ---- conditions
-pub condition_low : (w : ℕ) → condition_in (w % 2 ^ 24) ≡ condition_in w
-condition_low w =
-    let i : w % 2 ^ 24 / 2 ^ 12 % 2 ^ 12 ≡ w / 2 ^ 12 % 2 ^ 12 = omega arith in
-    let j : w % 2 ^ 24 % 2 ^ 12 ≡ w % 2 ^ 12 = omega arith in
-    λ n. condition (i n) (j n)
-
 pub condition_both : (w v : ℕ) → condition_in (bit_or w v) ≡ both (condition_in w) (condition_in v)
 unfolding both ◌union◌
 condition_both w v =
     let i : bit_or w v / 2 ^ 12 % 2 ^ 12 ≡ bit_or (w / 2 ^ 12 % 2 ^ 12) (v / 2 ^ 12 % 2 ^ 12) =
     ap (λ (z : ℕ). z % 2 ^ 12) (or_shr w v 12) ∙ or_mod (w / 2 ^ 12) (v / 2 ^ 12) 12 in
     λ n. condition (i n) (or_mod w v 12 n)
-
-pub condition_parts : (on off : ℕ) → on < 2 ^ 12 → off < 2 ^ 12 → condition_in (on * 2 ^ 12 + off) ≡ condition on off
-condition_parts on off a b =
-    let i : (on * 2 ^ 12 + off) / 2 ^ 12 % 2 ^ 12 ≡ on = omega arith in
-    let j : (on * 2 ^ 12 + off) % 2 ^ 12 ≡ off = omega arith in
-    λ n. condition (i n) (j n)
 
 pub condition_zero : condition_in 0 ≡ always
 unfolding always
@@ -190,23 +178,15 @@ module _ (s r : ℕ) (h : s < 12) (e : r ≡ only s % 2 ^ 64) where
   pub slot_below : r < 2 ^ 12
   slot_below = let b = only_below 12 s h in let f = slot_word in omega arith
 
-  pub slot_on : condition_in (r * 4096) ≡ condition (only s) 0
-  slot_on =
-      let z : r * 4096 ≡ r * 2 ^ 12 + 0 = omega arith in
-      ap condition_in z ∙ condition_parts r 0 slot_below (omega arith) ∙ ap (λ (y : ℕ). condition y 0) slot_word
-
-  pub slot_off : condition_in r ≡ condition 0 (only s)
-  slot_off =
-      let z : r ≡ 0 * 2 ^ 12 + r = omega arith in
-      ap condition_in z ∙ condition_parts 0 r (omega arith) slot_below ∙ ap (condition 0) slot_word
-
 pub without_below : (k a s r : ℕ) → a < 2 ^ k → r ≡ a without s → r < 2 ^ k
 without_below k a s r h e = let m = minus_below k a (only s) h in subst (λ (z : ℕ). z < 2 ^ k) (sym e) m
 
-pub forget_parts : (c : Condition) (s on off a b : ℕ) → on ≡ c.on → a ≡ on without s → a < 2 ^ 12 → off ≡ c.off → b ≡ off without s → b < 2 ^ 12
-    → condition_in (a * 4096 + b) ≡ forget s c
+pub forget_parts : (c : Condition) (s on off a b : ℕ) → on ≡ c.on → a ≡ on without s → off ≡ c.off → b ≡ off without s → condition a b ≡ forget s c
 unfolding forget
-forget_parts c s on off a b h k m i j n =
+forget_parts c s on off a b h k i j =
     let p : a ≡ c.on without s = k ∙ ap (λ (z : ℕ). z without s) h in
     let q : b ≡ c.off without s = j ∙ ap (λ (z : ℕ). z without s) i in
-    condition_parts a b m n ∙ (λ x. condition (p x) (q x))
+    λ x. condition (p x) (q x)
+
+-- what the conditions of the code are shown by
+pub ruleset condition_laws = (slot_word, slot_below, forget_parts, condition_zero, condition_both, is_met, not_met)

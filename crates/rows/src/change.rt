@@ -1,10 +1,13 @@
 // What statements do with each row of their bodies.
+#![tactic(auto, using(crate::proofs::Changes::change_laws), unfolding(crate::specs::inner::Rules::given_row, crate::specs::inner::Rules::going_row))]
+
 ghost use Rattle.std.specs.Prelude.{◌≡◌, [], ◌∷◌, List, ◌<◌, ◌^◌};
 ghost use Rattle.esterel.specs.inner.Rows.{Row as Meaning, local_row};
-ghost use Rattle.rows.specs.inner.Layout.{condition_in, unpacked};
+ghost use Rattle.rows.specs.inner.Layout.{unpacked};
 ghost use Rattle.rows.specs.inner.Rules.{hide_row, given_row, going_row, caught_row};
 ghost use Rattle.rows.specs.inner.Area.{optional};
 
+use crate::condition::Condition;
 use crate::row::Row;
 
 // What becomes of a row, if it does not go.
@@ -44,12 +47,13 @@ impl Change for Local {
     ghost changed = { λ c. local_row c.signal c.slot };
 
     fn change(&self, row: Row) -> Option<Row> {
-        let rest = row.forgetting(self.slot);
+        let condition = row.condition();
+        let rest = row.under(condition.forgetting(self.slot));
         let emitted = row.emitted();
         if sets::contains(emitted, self.signal) {
             return Some(rest.with_emitted(sets::without(emitted, self.signal)));
         }
-        if row.needs(self.slot) {
+        if condition.needs(self.slot) {
             return None;
         }
         Some(rest)
@@ -59,14 +63,15 @@ impl Change for Local {
 // A branch of a test on an unknown signal, with the condition that it adds.
 #[derive(Clone, Copy)]
 pub struct Given {
-    pub condition: u64,
+    pub condition: Condition,
 }
 
 impl Change for Given {
-    ghost changed = { λ c. given_row (condition_in c.condition) };
+    ghost changed = { λ c. given_row c.condition };
 
     fn change(&self, row: Row) -> Option<Row> {
-        row.under(self.condition).unless_clash()
+        let both = self.condition.both(row.condition());
+        row.under(both).unless_clash()
     }
 }
 

@@ -2,13 +2,15 @@
 #![tactic(auto)]
 
 mod change;
+mod condition;
 mod lists;
 mod merging;
 mod pairing;
 mod row;
 
 pub use change::{Caught, Change, Given, Going, Hide, Local};
+pub use condition::Condition;
 pub use lists::{MOST, Unlisted, alter, one, some_ends};
 pub use merging::merge;
 pub use pairing::{Pairing, Parallel, Sequence, product};
-pub use row::{Row, off_slot, on_slot};
+pub use row::Row;

@@ -1,4 +1,6 @@
 // Two lists that lie one above the other made one.
+#![tactic(auto, using(crate::proofs::Merges::counted_few, crate::proofs::Merges::counted_many))]
+
 ghost use Rattle.std.specs.Prelude.{◌≡◌, ◌+◌, ◌≤◌, ◌<◌, ◌++◌, drop, length};
 ghost use Rattle.esterel.specs.inner.CappedRows.{collect_rows};
 ghost use Rattle.rows.specs.inner.Area.{all_rows, rows, rows_from, InOrder, Made, Beside, Split};
@@ -8,19 +10,19 @@ use crate::row::Row;
 use std::cmp::Ordering;
 
 // The n rows in front, in order, unless they are too many for a list.
-fn counted(area: &[Row], n: usize) -> Result<usize, Unlisted>
+fn counted(area: &[Row], n: usize) -> Result<u8, Unlisted>
     requires { (n ≤ length area.now) × InOrder (rows area.now n) }
     ensures { Made area.now 0 (collect_rows (rows area.now n)) result }
 {
     if n <= MOST {
-        Ok(n)
+        Ok(n as u8)
     } else {
         Err(Unlisted::Over)
     }
 }
 
 // The firsts and the rows from the place `mid` on set behind the kept ones in front, the smaller head first, and equal heads once.
-fn merge_down(list: &mut [Row], kept: usize, mid: usize, firsts: &[Row]) -> Result<usize, Unlisted>
+fn merge_down(list: &mut [Row], kept: usize, mid: usize, firsts: &[Row]) -> Result<u8, Unlisted>
     requires { Split list.old kept mid firsts.now }
     ensures { Made list.new 0 (collect_rows (rows list.old kept ++ (all_rows firsts.now ++ all_rows (drop mid list.old)))) result }
 {
@@ -54,7 +56,7 @@ fn merge_down(list: &mut [Row], kept: usize, mid: usize, firsts: &[Row]) -> Resu
 }
 
 // Of the first list what is below the second stays; the others are copied above the second.
-fn merge_both(area: &mut [Row], n1: usize, n2: usize) -> Result<usize, Unlisted>
+fn merge_both(area: &mut [Row], n1: usize, n2: usize) -> Result<u8, Unlisted>
     requires { Beside area.old n1 n2 × (0 < n2) × (n1 + n2 + 65 ≤ length area.old) }
     ensures { Made area.new 0 (collect_rows (rows area.old n1 ++ rows_from area.old n1 n2)) result }
 {
@@ -67,9 +69,10 @@ fn merge_both(area: &mut [Row], n1: usize, n2: usize) -> Result<usize, Unlisted>
     merge_down(lists, kept, n1, firsts)
 }
 
-// The n1 rows in front and the n2 above them, each in order, as one list. They are one as they stand where the last of the first
+// The n1 rows in front and the n2 above them, each in order, as one list. Both lists lie in one slice, here and in a product, since what
+// comes of them is to stand in front of it. They are one as they stand where the last of the first
 // is below the first of the second.
-pub fn merge(area: &mut [Row], n1: usize, n2: usize) -> Result<usize, Unlisted>
+pub fn merge(area: &mut [Row], n1: usize, n2: usize) -> Result<u8, Unlisted>
     requires { Beside area.old n1 n2 }
     ensures { Made area.new (n1 + n2 + 65) (collect_rows (rows area.old n1 ++ rows_from area.old n1 n2)) result }
 {

@@ -1,4 +1,6 @@
 // The rows of two parts in one instant.
+#![tactic(auto, unfolding(crate::specs::inner::Rules::follow_row, crate::specs::inner::Rules::goes_on))]
+
 ghost use Rattle.std.specs.Prelude.{◌≡◌, Bool, ◌+◌, ◌≤◌, ◌++◌, take, drop, length};
 ghost use Rattle.esterel.specs.Reactions.{reached_together};
 ghost use Rattle.esterel.specs.inner.Rows.{Row as Meaning};
@@ -87,10 +89,10 @@ impl<P: Pairing> Change for Joining<P> {
 // What a row gives with those of the second part, put among the n in front.
 fn add_pairs<P: Pairing>(
     area: &mut [Row],
-    n: usize,
+    n: u8,
     first: Row,
     seconds: &[Row],
-) -> Result<usize, Unlisted>
+) -> Result<u8, Unlisted>
     requires { Spare area.old n }
     ensures { Made area.new 0 (collect_rows (pairs P.alone P.joined (all_rows seconds.now) (unpacked first) ++ rows area.old n)) result }
 {
@@ -105,7 +107,7 @@ fn add_pairs<P: Pairing>(
 }
 
 // The product of the first row and the others, in place.
-fn product_of_one<P: Pairing>(area: &mut [Row]) -> Result<usize, Unlisted>
+fn product_of_one<P: Pairing>(area: &mut [Row]) -> Result<u8, Unlisted>
     requires { 1 ≤ length area.old }
     ensures { Made area.new 0 (collect_rows (product_of P.alone P.joined (rows area.old 1) (all_rows (drop 1 area.old)))) result }
 {
@@ -121,7 +123,7 @@ fn product_of_one<P: Pairing>(area: &mut [Row]) -> Result<usize, Unlisted>
 }
 
 // Each of the n1 rows in front with each of the n2 above them, put together above those and moved down.
-fn product_of_many<P: Pairing>(area: &mut [Row], n1: usize, n2: usize) -> Result<usize, Unlisted>
+fn product_of_many<P: Pairing>(area: &mut [Row], n1: usize, n2: usize) -> Result<u8, Unlisted>
     requires { n1 + n2 + 65 ≤ length area.old }
     ensures { Made area.new 0 (collect_rows (product_of P.alone P.joined (rows area.old n1) (rows_from area.old n1 n2))) result }
 {
@@ -132,12 +134,12 @@ fn product_of_many<P: Pairing>(area: &mut [Row], n1: usize, n2: usize) -> Result
     for first in firsts {
         n = add_pairs::<P>(top, n, *first, seconds)?;
     }
-    area.copy_within(both..both + n, 0);
+    area.copy_within(both..both + n as usize, 0);
     Ok(n)
 }
 
 // The product of the n1 rows in front and the n2 above them.
-pub fn product<P: Pairing>(area: &mut [Row], n1: usize, n2: usize) -> Result<usize, Unlisted>
+pub fn product<P: Pairing>(area: &mut [Row], n1: usize, n2: usize) -> Result<u8, Unlisted>
     requires { n1 + n2 ≤ length area.old }
     ensures { Made area.new (n1 + n2 + 65) (collect_rows (product_of P.alone P.joined (rows area.old n1) (rows_from area.old n1 n2))) result }
 {

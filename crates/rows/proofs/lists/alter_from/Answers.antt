@@ -1,13 +1,10 @@
 -- The invariant: what the rows from the i-th on give is still to be put in, and those rows are as they were.
-use Rattle.std.proofs.Common.{refl, arith}
+use Rattle.std.proofs.Common.{arith}
 use Rattle.std.proofs.lemmas.Result.{err_from_is_err_and}
 use Rattle.rows.specs.inner.Layout.{unpacked}
-use Rattle.rows.proofs.Filling.{filling_empty, filling_end, still, still_done, passing_skip, passing_put, passing_over}
+use Rattle.rows.proofs.Filling.{filling_end, still_done, passing_skip, passing_put, passing_over}
 use Rattle.rows.proofs.lists.alter_from.Goals.{in-Some+in_ok-n, in_default}
 use Rattle.rows.proofs.lists.alter_from.Goals as goal
-
-pub loop-i-init : goal.loop-i-init
-loop-i-init g c = record { behind = omega arith; unread = refl; filling = filling_empty c.args.area.now (still c.args.area.now (g.C.Change.changed c.args.change.now) c.args.from) }
 
 pub returns-in_err-n-clause-made : goal.returns-in_err-n-clause-made
 returns-in_err-n-clause-made g c =

@@ -1,12 +1,14 @@
--- The emitted sets, and the conditions, are bits of the two words together.
+-- The emitted sets, and the conditions, go together.
 use Rattle.std.proofs.Common.{refl, ◌∙◌}
-use lib.Bits.{or_shr}
+use mathlib.Core.Path.{ap₂}
+use lib.Bits.{bit_or}
 use Rattle.sets.specs.Set.{◌union◌}
-use Rattle.rows.proofs.Words.{row_equal, condition_both}
-use Rattle.rows.specs.inner.Layout.{unpacked_words, unpacked}
+use Rattle.esterel.specs.inner.Conditions.{both}
+use Rattle.rows.proofs.Words.{row_equal}
 use Rattle.rows.proofs.row.Row.beside.Goals as goal
 
 pub returns : goal.returns
-unfolding unpacked_words unpacked ◌union◌
+unfolding ◌union◌
 returns c =
-    c.new.ensures ∙ row_equal (condition_both c.args.self.word c.args.other.word) (c.emitted.ensures.0 ∙ or_shr c.args.self.word c.args.other.word 32) refl refl
+    c.new.ensures
+    ∙ row_equal (c.both-both.ensures ∙ ap₂ both c.condition.ensures c.condition-2.ensures) (ap₂ bit_or c.emitted.ensures.0 c.emitted-2.ensures.0) refl refl

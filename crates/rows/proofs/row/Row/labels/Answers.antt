@@ -1,8 +1,0 @@
--- By the layout.
-use Rattle.std.proofs.Common.{refl}
-use Rattle.rows.specs.inner.Layout.{unpacked_words, unpacked}
-use Rattle.rows.proofs.row.Row.labels.Goals as goal
-
-pub returns : goal.returns
-unfolding unpacked_words unpacked
-returns c = refl

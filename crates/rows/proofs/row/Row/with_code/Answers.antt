@@ -1,9 +1,0 @@
--- The other parts stay.
-use Rattle.std.proofs.Common.{refl, ◌∙◌}
-use Rattle.rows.proofs.Words.{row_equal}
-use Rattle.rows.specs.inner.Layout.{unpacked_words, unpacked}
-use Rattle.rows.proofs.row.Row.with_code.Goals as goal
-
-pub returns : goal.returns
-unfolding unpacked_words unpacked
-returns c = c.new.ensures ∙ row_equal c.condition.ensures c.emitted.ensures.0 refl refl
