@@ -26,7 +26,7 @@ use Rattle.list.proofs.Limits.{held_length}
 use Rattle.list.proofs.Fills.{singles, in_bytes}
 
 -- ---- refusals
-module _ (v : Listing) (why : Refusal) (e : v ≡ refused (number_of_refusal why)) where
+module _ {v : Listing} (why : Refusal) (e : v ≡ refused (number_of_refusal why)) where
   untouched : {A : Type 0} (h : ℕ → List A) (field : Reaction → ℕ) (old : List A) → old ≡ front (spelled h (map field (written v))) old
   unfolding front written spelled
   untouched h field old = ap (λ (z : Listing). front (spelled h (map field (written z))) old) (sym e)
@@ -35,16 +35,16 @@ module _ (v : Listing) (why : Refusal) (e : v ≡ refused (number_of_refusal why
   unfolding front written
   codes_untouched old = ap (λ (z : Listing). front (map code_in (written z)) old) (sym e)
 
-  pub refused_as : {A B : Type 0} (f : ℕ → List A) (g : ℕ → List B) (o : List A) (k : List ℕ) (l : List B) → DeliveredAs f g v (Err why) o o k k l l
+  pub refused_as : {A B : Type 0} {f : ℕ → List A} {g : ℕ → List B} {o : List A} {k : List ℕ} {l : List B} → DeliveredAs f g v (Err why) o o k k l l
   unfolding listing_outcome
-  refused_as f g o k l = record { answer = ap listing_outcome (sym e); signals = untouched f emitted_in o; codes = codes_untouched k; labels = untouched g reached_in l }
+  refused_as {f = f} {g} {o} {k} {l} = record { answer = ap listing_outcome (sym e); signals = untouched f emitted_in o; codes = codes_untouched k; labels = untouched g reached_in l }
 
 -- ---- the reactions
-pub listed_as : {A B : Type 0} {f : ℕ → List A} {g : ℕ → List B} (v : Listing) (ts : List Reaction) (n : ℕ) {o o' : List A} {k k' : List ℕ} {l l' : List B}
+pub listed_as : {A B : Type 0} {f : ℕ → List A} {g : ℕ → List B} {v : Listing} {ts : List Reaction} {n : ℕ} {o o' : List A} {k k' : List ℕ} {l l' : List B}
     → v ≡ listed ts → n ≡ length ts → o' ≡ front (spelled f (map emitted_in ts)) o → k' ≡ front (map code_in ts) k → l' ≡ front (spelled g (map reached_in ts)) l
     → DeliveredAs f g v (Ok n) o o' k k' l l'
 unfolding listing_outcome written
-listed_as {f = f} {g} v ts n {o} {o'} {k} {k'} {l} {l'} e h a b c = record {
+listed_as {f = f} {g} {v} {ts} {n} {o} {o'} {k} {k'} {l} {l'} e h a b c = record {
   answer = ap (λ (k : ℕ). values (k ∷ [])) h ∙ ap listing_outcome (sym e);
   signals = a ∙ ap (λ (z : Listing). front (spelled f (map emitted_in (written z))) o) (sym e);
   codes = b ∙ ap (λ (z : Listing). front (map code_in (written z)) k) (sym e);

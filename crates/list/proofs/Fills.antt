@@ -2,15 +2,20 @@
 -- what was there.
 use mathlib.Core.Path.{◌≡◌, refl, sym, ap, ap₂, ◌∙◌}
 use mathlib.Core.List.{List, [], ◌∷◌, ◌++◌, map, append_assoc, append-nil}
-use Prim.Native.Nat.{ℕ, zero, suc, ◌+◌, ◌*◌, ◌/◌, ◌≤◌, ◌<◌, min}
+use Prim.Native.Nat.{ℕ, zero, suc, ◌+◌, ◌*◌, ◌/◌, ◌%◌, ◌^◌, ◌≤◌, ◌<◌, min}
 use native.Mathlib.Omega.{arith}
-use native.Mathlib.Nat.{mul-suc, mul-le-mul_left, mul-div-le}
+use native.Mathlib.Nat.{mul-suc, mul-le-mul_left, mul-div-le, pow-suc}
 use native.Mathlib.Numerals.{add-one}
-use lib.ListN.{length, get_or, set, take, drop, length-append, length-drop, length-map, length-set}
-use lib.Seq.{take_all, take-suc, take_at, drop-drop, drop_at, set_split, append_snoc, paste}
+use lib.ListN.{length, get_or, set, take, drop, length-append, length-drop, length-map, length-set, take-append-drop}
+use lib.Seq.{take_all, take-suc, take_at, drop-drop, drop_at, set_split, append_snoc}
 use Rattle.esterel.specs.Reactions.{Reaction}
-use Rattle.table.specs.Bits.{bytes}
-use Rattle.table.proofs.Bits.{length_bytes}
+use Rattle.std.specs.Int.{byte_at, bytes_high_first}
+use Rattle.std.proofs.Math.Nat.{div-one}
+use Rattle.std.proofs.lemmas.Nat.{pow-add}
+use Rattle.std.proofs.lemmas.Slice.{take-put_mid, drop-put_mid}
+use borrow.Rule.Slice.PartMut.{put_mid}
+use Rattle.table.specs.Bits.{bytes_from, bytes}
+use Rattle.table.proofs.Bits.{length_bytes, bytes_suc}
 use Rattle.esterel.specs.inner.Rows.{reactions}
 use Rattle.rows.specs.declared.row.Row.{Row}
 use Rattle.rows.specs.inner.Layout.{unpacked}
@@ -83,8 +88,27 @@ set_is l i v h =
     let g : suc i ≡ 1 * i + 1 = omega arith in
     set_split l i v h ∙ ap₂ (λ (m n : ℕ). take m l ++ v ∷ drop n l) (sym e) g ∙ sym (append_snoc (take (1 * i) l) v (drop (1 * i + 1) l))
 
-pub pasted_is : (w v at : ℕ) (old new : List ℕ) → new ≡ paste old at (bytes w v) w → new ≡ take at old ++ bytes w v ++ drop (at + w) old
-pasted_is w v at old new e = e ∙ ap (λ (b : List ℕ). take at old ++ b ++ drop (at + w) old) (take_all w (bytes w v) (let l = length_bytes w v in omega arith))
+-- the library's bytes are these
+width : (w : ℕ) → 256 ^ w ≡ 2 ^ (8 * w)
+width zero = refl
+width (suc w) = pow-suc 256 w ∙ ap (λ (n : ℕ). n * 256) (width w) ∙ sym (pow-add 2 (8 * w) 8) ∙ ap (λ (k : ℕ). 2 ^ k) (omega arith)
+
+high_first : (w v : ℕ) → bytes_high_first w v ≡ bytes w v
+unfolding bytes_from
+high_first zero v = refl
+high_first (suc w) v = ap₂ (λ (b : ℕ) (bs : List ℕ). b ∷ bs) (byte w) (high_first w v) ∙ sym (bytes_suc w v)
+  where
+    byte : (w : ℕ) → byte_at w v ≡ v / 2 ^ (8 * w) % 256
+    byte zero = ap (λ (n : ℕ). n % 256) (sym (div-one v))
+    byte (suc w) = ap (λ (n : ℕ). v / n % 256) (width (suc w))
+
+pub put_is : (w v at k : ℕ) (old part : List ℕ) → k ≡ w → part ≡ bytes_high_first w v → at + w ≤ length old
+    → put_mid at k old part ≡ take at old ++ bytes w v ++ drop (at + w) old
+put_is w v at k old part e f h =
+    let long : length part ≡ w = ap length (f ∙ high_first w v) ∙ length_bytes w v in
+    sym (take-append-drop (at + w) (put_mid at k old part))
+    ∙ ap₂ (λ (a b : List ℕ). a ++ b) (take-put_mid at k old part (at + w) (omega arith) (omega arith) ∙ ap (λ (b : List ℕ). take at old ++ b) (f ∙ high_first w v))
+    (drop-put_mid at k old part (at + w) (omega arith) (omega arith) (omega arith))
 
 pub singles : (vs : List ℕ) → spelled (λ v. v ∷ []) vs ≡ vs
 unfolding spelled
@@ -117,7 +141,7 @@ pub record Filling {A B : Type 0} (f : ℕ → List A) (m : ℕ) (g : ℕ → Li
   pub codes : Filled (λ (v : ℕ). v ∷ []) 1 (map code_in (reactions_held a)) k₀ k i
   pub labels : Filled g c (map reached_in (reactions_held a)) l₀ l i
 
-module _ {A B : Type 0} (f : ℕ → List A) (m : ℕ) (g : ℕ → List B) (c : ℕ) (a : List Row) (o₀ : List A) (k₀ : List ℕ) (l₀ : List B) where
+module _ {A B : Type 0} {f : ℕ → List A} {m : ℕ} {g : ℕ → List B} {c : ℕ} {a : List Row} {o₀ : List A} {k₀ : List ℕ} {l₀ : List B} where
   pub filling_none : Filling f m g c a o₀ o₀ k₀ k₀ l₀ l₀ 0
   filling_none = record { signals = filled_none f m _ o₀; codes = filled_none (λ (v : ℕ). v ∷ []) 1 _ k₀; labels = filled_none g c _ l₀ }
 

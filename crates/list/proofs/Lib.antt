@@ -1,3 +1,4 @@
+pub mod PastKinds
 pub mod Pauses
 pub mod Passing
 pub mod Slotting

@@ -242,30 +242,12 @@ module _ {n : ℕ} {xs : List ℕ} {at node behind : ℕ} {notes : List Note} (c
           go (no g) (yes z) = noted_two sequence other (λ v. is_sequence v z) (λ p q. refl) (λ p q. refl) f
           go (no g) (no m) = noted_two parallel other (λ v. is_parallel v (omega (arith, kind_is k i, l, h, g, m))) (λ p q. refl) (λ p q. refl) f
 
-  -- ---- a count of pauses has its place in the unions
-  pub few_behind : (behind < 64) × (kind_of_node node ≡ 1 → behind < 63)
-  few_behind = (omega (arith, c.counted, few_from c.over (at + 1)), λ k. less (here_pause c.over c.inside (sym (ap kind_of_node c.here) ∙ k)).0)
-    where
-      less : pauses_from n xs at ≡ pauses_from n xs (at + 1) + 1 → behind < 63
-      less e = omega (arith, c.counted, few_from c.over at, e)
-
-  -- ---- no other kind
-  pub never_noted : (k : ℕ) → k ≡ kind_of_node node → 11 ≤ k → ⊥
-  never_noted k i h = omega (arith, c.over.known at c.inside, i ∙ ap kind_of_node c.here, h)
-
 -- ---- The loop
 pub record Passed (n : ℕ) (xs : List ℕ) (notes : List Note) (unions : List ℕ) (at behind labels : ℕ) : Type 0 where
   pub at_most : at ≤ n
   pub all : AllNoted at n xs notes unions
   pub counted : behind ≡ pauses_from n xs at
   pub named : labels ≡ labels_from n xs at
-
--- before the next node
-pub one_back : {n : ℕ} {xs : List ℕ} {notes : List Note} {unions : List ℕ} {at behind labels : ℕ} → Passed n xs notes unions at behind labels → 0 < at
-    → Passed n xs notes unions (at - 1 + 1) behind labels
-one_back {n} {xs} {notes} {unions} {at} {behind} {labels} q h =
-    let e : at ≡ at - 1 + 1 = omega arith in
-    subst (λ (z : ℕ). Passed n xs notes unions z behind labels) e q
 
 module _ {n : ℕ} {xs : List ℕ} (p : Passable n xs) where
   -- past the last node there is no pause
@@ -324,36 +306,55 @@ module _ {n : ℕ} {xs : List ℕ} (p : Passable n xs) where
     }
 
   module _ {notes : List Note} {unions : List ℕ} where
-    module _ {at behind labels : ℕ} (q : Passed n xs notes unions (at + 1) behind labels) where
+    -- at the node before the place at which it is
+    module _ {place behind labels : ℕ} (q : Passed n xs notes unions place behind labels) (h : 0 < place) where
+      abbrev at : ℕ
+      at = place - 1
+
+      back : Passed n xs notes unions (at + 1) behind labels
+      back =
+          let e : place ≡ at + 1 = omega arith in
+          subst (λ (z : ℕ). Passed n xs notes unions z behind labels) e q
+
       inside : at < n
-      inside = let h = q.at_most in omega arith
+      inside = let h = back.at_most in omega arith
 
-      pub came_to : CameTo n xs at (get_or xs at 0) behind notes
-      came_to = record { over = p; inside = inside; here = refl; counted = q.counted; noted = q.all.noted }
+      came_to : CameTo n xs at (get_or xs at 0) behind notes
+      came_to = record { over = p; inside = inside; here = refl; counted = back.counted; noted = back.all.noted }
 
-      module _ {notes' : List Note} (c : NotesFrom at n xs notes') where
-        pub passed_pause : {own more : ℕ} → kind_of_node (get_or xs at 0) ≡ 1 → own ≡ operand_of (get_or xs at 0) → more ≡ labels union only own
+      -- a count of pauses has its place in the unions
+      pub few_behind : behind < 64
+      few_behind = omega (arith, back.counted, few_from p (at + 1))
+
+      pub few_with : {kind : ℕ} → kind ≡ kind_of_node (get_or xs at 0) → kind ≡ 1 → behind < 63
+      few_with e k = omega (arith, back.counted, few_from p at, (here_pause p inside (sym e ∙ k)).0)
+
+      module _ {notes' : List Note} (c : (m : ℕ) (ys : List ℕ) → CameTo m ys at (get_or xs at 0) behind notes → NotesFrom at m ys notes') {kind : ℕ} (e : kind ≡ kind_of_node (get_or xs at 0)) where
+        pub passed_pause : {own more : ℕ} → kind ≡ 1 → own ≡ operand_of (get_or xs at 0) → more ≡ labels union only own
             → Passed n xs notes' (set unions (behind + 1) more) at (behind + 1) more
-        passed_pause {own} {more} k e f =
+        passed_pause {own} {more} i j f =
+            let k = sym e ∙ i in
             let h = here_pause p inside k in
-            let m : behind + 1 ≡ pauses_from n xs at = ap (λ (z : ℕ). z + 1) q.counted ∙ sym h.0 in
-            let l : more ≡ labels_from n xs at = f ∙ ap₂ (λ (y z : ℕ). y union only z) q.named e ∙ union_comm (labels_from n xs (at + 1)) (only (operand_of (get_or xs at 0))) ∙ sym h.1 in
-            let u = q.all.long in
+            let m : behind + 1 ≡ pauses_from n xs at = ap (λ (z : ℕ). z + 1) back.counted ∙ sym h.0 in
+            let l : more ≡ labels_from n xs at =
+            f ∙ ap₂ (λ (y z : ℕ). y union only z) back.named j ∙ union_comm (labels_from n xs (at + 1)) (only (operand_of (get_or xs at 0))) ∙ sym h.1 in
+            let u = back.all.long in
             record {
               at_most = omega (arith, inside);
-              all = record { long = length-set unions (behind + 1) more ∙ u; noted = c; united = union_put inside unions q.all.united k u (behind + 1) more m l };
+              all = record { long = length-set unions (behind + 1) more ∙ u; noted = c n xs came_to; united = union_put inside unions back.all.united k u (behind + 1) more m l };
               counted = m;
               named = l;
             }
 
-        pub passed_other : (kind_of_node (get_or xs at 0) ≡ 1 → ⊥) → Passed n xs notes' unions at behind labels
-        passed_other k =
+        pub passed_other : (kind ≡ 1 → ⊥) → Passed n xs notes' unions at behind labels
+        passed_other i =
+            let k : kind_of_node (get_or xs at 0) ≡ 1 → ⊥ = λ j. i (e ∙ j) in
             let h = here_none p inside k in
             record {
               at_most = omega (arith, inside);
-              all = record { long = q.all.long; noted = c; united = union_kept inside unions q.all.united k };
-              counted = q.counted ∙ sym h.0;
-              named = q.named ∙ sym h.1;
+              all = record { long = back.all.long; noted = c n xs came_to; united = union_kept inside unions back.all.united k };
+              counted = back.counted ∙ sym h.0;
+              named = back.named ∙ sym h.1;
             }
 
   -- ---- what is noted of each statement, when all is

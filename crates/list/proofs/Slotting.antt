@@ -40,9 +40,6 @@ taken_more {U} {M} {N} {used} s t h e = subst (λ (L : ℕ). Taken U L (used + 1
       within = λ S e. in_left M (only s) S (t.within S e);
     }
 
-pub taken_slotted : {U M used : ℕ} → Taken U M used → used ≤ 12 → Slotted M U
-taken_slotted t h = record { few = let f = t.fits in omega arith; narrow = t.narrow; within = t.within }
-
 -- no signal is unknown
 pub none_slotted : Slotted 0 0
 none_slotted = record { few = let e = count_empty 32 in omega arith; narrow = λ S h. clash h (has_empty S); within = λ S h. h }

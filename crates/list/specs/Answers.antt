@@ -46,6 +46,6 @@ unfoldable pub listing_outcome : Listing → Outcome
 listing_outcome (refused w) = refusal w
 listing_outcome (listed ts) = values (length ts ∷ [])
 
--- what is said of an answer of list, case by case: the refusal, or the count
+-- what is said of an answer of list: the number of its refusal, or the count
 abbrev pub answer_outcome : Result ℕ Refusal → Outcome
 answer_outcome = outcome (λ n. n ∷ [])

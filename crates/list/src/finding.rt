@@ -1,11 +1,10 @@
 // From a prepared table to the reactions of a state in a lent area. The area of a caller is small, since most lists are; a list
 // that it cannot hold on the way is made again in one that holds any.
 ghost use Rattle.std.specs.Prelude.{◌≡◌, ◌≤◌, length};
-ghost use Rattle.table.specs.inner.Places.{statement_of};
 ghost use Rattle.rows.specs.inner.Area.{Made};
 ghost use Rattle.lister.specs.inner.Slots.{Slotted};
 ghost use Rattle.lister.specs.inner.Joins.{rows_under};
-ghost use Rattle.list.specs.inner.Preparing.{state_in, limited};
+ghost use Rattle.list.specs.inner.Preparing.{state_in, statement_in, limited};
 ghost use Rattle.list.specs.inner.Finding.{Finds};
 
 use crate::State;
@@ -46,7 +45,7 @@ impl Program<'_> {
         state: State,
         area: &mut [Row],
     ) -> Result<usize, Unlisted>
-        ensures { Made area.new 3905 (rows_under signals.now (statement_of self.now.prepared.now.noted.nodes) (state_in state)) result }
+        ensures { Made area.new 3905 (rows_under signals.now (statement_in self.now) (state_in state)) result }
     {
         match state {
             State::Start => self.prepared.noted.start(0, signals, area),
@@ -63,7 +62,7 @@ impl Program<'_> {
         area: &mut [Row],
     ) -> Result<usize, Unlisted>
         requires { 64 ≤ length area.old }
-        ensures { Made area.new 0 (rows_under signals.now (statement_of self.now.prepared.now.noted.nodes) (state_in state)) result }
+        ensures { Made area.new 0 (rows_under signals.now (statement_in self.now) (state_in state)) result }
     {
         let mut large = [Row::NOTHING; LARGE];
         let n = self.rows_in(signals, state, &mut large)?;
@@ -71,33 +70,19 @@ impl Program<'_> {
         Ok(n)
     }
 
-    // In the lent area, or, where that is too small, through a large one.
-    fn rows_anywhere(
-        &self,
-        signals: &Presence,
-        state: State,
-        area: &mut [Row],
-    ) -> Result<usize, Unlisted>
-        requires { 64 ≤ length area.old }
-        ensures { Made area.new 0 (rows_under signals.now (statement_of self.now.prepared.now.noted.nodes) (state_in state)) result }
-    {
-        match self.rows_in(signals, state, area) {
-            Ok(count) => Ok(count),
-            Err(Unlisted::Over) => Err(Unlisted::Over),
-            Err(_) => self.rows_through(signals, state, area),
-        }
-    }
-
-    // The reactions of a state under the assumed signals, so many, left in front of an area.
+    // The reactions of a state under the assumed signals, so many, left in front of an area: they are made there, or through a large one,
+    // which is never too small.
     pub fn reactions(&self, assumed: u32, state: State, area: &mut [Row]) -> Result<usize, Refusal>
         requires { 64 ≤ length area.old }
-        ensures { Finds (limited (statement_of self.now.prepared.now.noted.nodes) (state_in state) assumed) result area.new }
+        ensures { Finds (limited (statement_in self.now) (state_in state) assumed) result area.new }
     {
         let signals = self.presence(assumed as u64, 0);
-        match self.rows_anywhere(&signals, state, area) {
+        match self.rows_in(&signals, state, area) {
             Ok(n) => Ok(n),
-            Err(Unlisted::Refused) => Err(Refusal::Kind),
-            Err(_) => Err(Refusal::Crowded),
+            Err(Unlisted::Over) => Err(Refusal::Crowded),
+            Err(_) => self
+                .rows_through(&signals, state, area)
+                .or(Err(Refusal::Crowded)),
         }
     }
 }

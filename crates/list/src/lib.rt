@@ -36,19 +36,22 @@ pub enum State {
     Resumed(u64),
 }
 
-// The state of a mark and a label set.
-pub fn state_of(mark: u32, labels: u64) -> State
-    ensures { state_in result ≡ state_of mark labels }
-{
-    if mark == 0 {
-        return State::Start;
+// Of a mark and a label set: "0 the start, whose label set is then ignored; any other number a resumed state".
+impl From<(u32, u64)> for State {
+    ghost from_gives = { λ asked state. state_in state ≡ state_of asked.0 asked.1 };
+
+    fn from((mark, labels): (u32, u64)) -> State {
+        if mark == 0 {
+            State::Start
+        } else {
+            State::Resumed(labels)
+        }
     }
-    State::Resumed(labels)
 }
 
 // The reactions of the state of a mark and a label set, under the assumed signals, into three buffers. What is prepared and rows have
 // room on the stack: there is no heap behind an entry for C. The buffers stay three parameters: of a struct of them each function would
-// have to say that it keeps the three references.
+// have to say that it keeps the three references. Mark and labels come apart, as C hands them.
 fn listed<O: Place<u32>, L: Place<u64>>(
     table: &[u8],
     assumed: u32,
@@ -62,7 +65,7 @@ fn listed<O: Place<u32>, L: Place<u64>>(
 {
     let mut room = Prepared::new();
     let program = preparing::prepare(table, &mut room)?;
-    let state = state_of(mark, labels);
+    let state = State::from((mark, labels));
     let mut area = [Row::NOTHING; SMALL];
     let n = program.reactions(assumed, state, &mut area)?;
     writing::deliver(&area[..n], o, k, l)

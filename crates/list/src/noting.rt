@@ -53,7 +53,8 @@ fn note_at(node: u16, notes: &mut [Note; MOST_NODES], at: usize, behind: u8) -> 
     Ok(())
 }
 
-// What is noted of the first nodes, and the labels of the last pauses.
+// What is noted of the first nodes, and the labels of the last pauses. They are lent one by one and not as a `Prepared`, whose facts hold
+// when all is noted.
 pub fn note_all(
     nodes: &[u16; MOST_NODES],
     count: usize,

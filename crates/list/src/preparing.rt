@@ -1,7 +1,8 @@
 // A table made ready, once, for listing any of its states under any assumed set: its nodes decoded and checked, and what the lister
 // asks of each noted. And the choice of the signals that may be unknown, made anew for each set of those that are.
-ghost use Rattle.std.specs.Prelude.{◌≡◌, true, ◌<◌};
+ghost use Rattle.std.specs.Prelude.{◌≡◌, true, ◌<◌, IfOk};
 ghost use Rattle.table.specs.Reading.{table_of, operand_of};
+ghost use Rattle.table.specs.inner.Places.{Known};
 ghost use Rattle.lister.specs.inner.Slots.{Slotted};
 ghost use Rattle.list.specs.inner.Preparing.{Prepares};
 
@@ -47,12 +48,14 @@ pub fn slotted(nodes: &[u16], unknown: u64) -> u64
 
 // A table made ready in the lent room, or check's refusals and 14.
 pub fn prepare<'a>(table: &[u8], room: &'a mut Prepared) -> Result<Program<'a>, Refusal>
-    ensures { Prepares (table_of table.now) result }
+    ensures prepares { Prepares (table_of table.now) result }
+    ensures known { Known room.old.noted.nodes → IfOk result (λ program. Known program.prepared.now.noted.nodes) }
 {
     let noted = &mut room.noted;
     let unions = &mut room.unions;
     noted.count = 0;
     let loaded = table::load(table, &mut noted.nodes);
+    // Document 01 asks for a let .. else on check's answer.
     let Ok(n) = loaded else {
         return Err(loaded.unwrap_err());
     };

@@ -48,7 +48,7 @@ impl Place<u32> for u8 {
     }
 
     fn put(buffer: &mut [u8], place: usize, number: u32) {
-        table::put_bytes(buffer, 4 * place, number as u64, 4)
+        buffer[4 * place..4 * place + 4].copy_from_slice(&number.to_be_bytes());
     }
 }
 
@@ -62,7 +62,7 @@ impl Place<u64> for u8 {
     }
 
     fn put(buffer: &mut [u8], place: usize, number: u64) {
-        table::put_bytes(buffer, 8 * place, number, 8)
+        buffer[8 * place..8 * place + 8].copy_from_slice(&number.to_be_bytes());
     }
 }
 

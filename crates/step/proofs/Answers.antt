@@ -46,27 +46,26 @@ unfolding found
 outcome_found true a = refl
 outcome_found false a = outcome_answered a
 
-module _ (t : List ℕ) (I mark X : ℕ) {xs : List ℕ} (r : Ready (table_of t) xs) where
+module _ (t : List ℕ) (I : ℕ) {xs : List ℕ} (r : Ready (table_of t) xs) where
   abbrev program : Statement
   program = statement_of xs
-
-  abbrev state : State
-  state = state_of mark X
 
   narrow : (S : ℕ) → has (emitted_free program) S ≡ true → S < 32
   narrow = valid_free 0 program r.valid
 
-  of_program : step_of t I mark X ≡ step_for program state I
+  of_program : (mark X : ℕ) → step_of t I mark X ≡ step_for program (state_of mark X) I
   unfolding step_of step_in
-  of_program = ap (λ (T : Table). step_in T I mark X) r.holds
+  of_program mark X = ap (λ (T : Table). step_in T I mark X) r.holds
 
   module _ {free k : ℕ} (e : free ≡ emitted_free program) (c : k ≡ count 64 free) where
     count_is : k ≡ count 32 (emitted_free program)
     count_is = c ∙ ap (count 64) e ∙ count_narrow (emitted_free program) 32 32 narrow
 
-    pub many_step : 10 < k → stepped_outcome (Err Free) ≡ step_of t I mark X
+    pub many_step : (mark X : ℕ) → 10 < k → stepped_outcome (Err Free) ≡ step_of t I mark X
     unfolding many_free
-    many_step l = sym (of_program ∙ for_many program state I r.shallow (lt-ltb 10 (count 32 (emitted_free program)) (subst (λ (z : ℕ). 10 < z) count_is l)))
+    many_step mark X l =
+        let many = lt-ltb 10 (count 32 (emitted_free program)) (subst (λ (z : ℕ). 10 < z) count_is l) in
+        sym (of_program mark X ∙ for_many program (state_of mark X) I r.shallow many)
 
     module _ {unknown : ℕ} (u : unknown ≡ free minus I) (l : k ≤ 10) where
       unknown_is : unknown ≡ emitted_free program minus I
@@ -82,11 +81,14 @@ module _ (t : List ℕ) (I mark X : ℕ) {xs : List ℕ} (r : Ready (table_of t)
         apart = λ S h. not_true (has I S) (λ i. clash (both_tests S h).1 (ap not i));
       }
 
-      pub looked_step : {x : State} {s : Result Stepped Refusal} → x ≡ state → Looks program x I I unknown s → stepped_outcome s ≡ step_of t I mark X
+      pub looked_step : (mark X : ℕ) {x : State} {s : Result Stepped Refusal} → x ≡ state_of mark X → Looks program x I I unknown s
+          → stepped_outcome s ≡ step_of t I mark X
       unfolding many_free
-      looked_step {x} {s} y m =
+      looked_step mark X {x} {s} y m =
+          let state = state_of mark X in
           let looked : Looked program state I I (emitted_free program minus I) m.all =
           subst (λ (z : State). Looked program z I I (emitted_free program minus I) m.all) y (subst (λ (z : ℕ). Looked program x I I z m.all) unknown_is m.looked) in
+          let few = le-ltb 10 (count 32 (emitted_free program)) (subst (λ (z : ℕ). z ≤ 10) count_is l) in
           ap stepped_outcome (m.result ∙ ap found (looked_whole program state I m.all narrow looked))
           ∙ outcome_found (crowded_from program state I) (stepping program state I)
-          ∙ sym (of_program ∙ for_few program state I r.shallow (le-ltb 10 (count 32 (emitted_free program)) (subst (λ (z : ℕ). z ≤ 10) count_is l)))
+          ∙ sym (of_program mark X ∙ for_few program state I r.shallow few)

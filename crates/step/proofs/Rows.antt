@@ -4,8 +4,6 @@ use mathlib.Core.Logic.{◌≢◌}
 use mathlib.Core.Bool.{Bool, true, false, cond, ◌&&◌}
 use mathlib.Core.List.{List, [], ◌∷◌, ◌++◌, append-nil}
 use Prim.Native.Nat.{ℕ}
-use native.Mathlib.Omega.{arith}
-use lib.ListN.{length}
 use lib.Seq.{append_snoc}
 use Rattle.std.specs.List.{push}
 use lib.Dec.{eqb}
@@ -125,14 +123,10 @@ pub record Gathered (s : Presence) (I : ℕ) (all rest : List Packed) (r : Stepp
   pub parts : all ≡ rest ++ done
   pub so_far : r ≡ all_answer s.slotted I s.assumed s.unknown (all_rows done)
 
-module _ (s : Presence) (I : ℕ) (all : List Packed) where
+module _ {s : Presence} {I : ℕ} {all : List Packed} where
   pub gathered_none : {rest : List Packed} → rest ≡ all → Gathered s I all rest None
   unfolding answered rows_answer
   gathered_none {rest} e = record { done = []; parts = sym (append-nil rest ∙ e); so_far = refl }
-
-  pub gathered_all : {rest : List Packed} {r : Stepped} → length rest ≡ 0 → Gathered s I all rest r → r ≡ all_answer s.slotted I s.assumed s.unknown (all_rows all)
-  gathered_all {rest = []} e g = g.so_far ∙ ap (λ (z : List Packed). all_answer s.slotted I s.assumed s.unknown (all_rows z)) (sym g.parts)
-  gathered_all {rest = x ∷ rest} e g = absurd (omega (arith, e))
 
   module _ {before rest : List Packed} (row : Packed) (e : before ≡ push rest row) {r : Stepped} (g : Gathered s I all before r) where
     one_more : {t : Stepped} → t ≡ all_answer s.slotted I s.assumed s.unknown (unpacked row ∷ all_rows g.done) → Gathered s I all rest t

@@ -13,7 +13,7 @@ use lib.ListN.{length, get_or, set, replicate, length-set}
 use lib.Seq.{get_or-set_same, get_or-set_other}
 use borrow.Author.Tests.{eq-eqb, ne_eqb, lt-ltb, le-ltb}
 use Rattle.sets.specs.Set.{has, only, ◌union◌}
-use Rattle.sets.proofs.Booleans.{or_right, or_false, or_swap}
+use Rattle.sets.proofs.Booleans.{clash, or_right, or_false, or_swap}
 use Rattle.sets.proofs.Members.{has_empty, has_union, has_only, has_only_other, has_without_same, has_without_other, ext}
 use Rattle.esterel.specs.Statement.{Statement, nothing, pause, gotopause, emit, exit, signal, present, sequence, parallel, loop, try, size, depth}
 use Rattle.esterel.specs.Stepping.{emitted_free}
@@ -55,36 +55,27 @@ module _ (S : ℕ) (xs : List ℕ) (notes : List Note) (at : ℕ) (m : Met) wher
 
   pub node_other : operand ≢ S → met_node S xs notes at m ≡ m
   unfolding met_node
-  node_other h = ap (λ (b : Bool). cond b (cond (ltb at m.until) m (met_kind kind (get_or notes at unnoted).end m)) m) (ne_eqb operand S h)
-
-  same_node : operand ≡ S → met_node S xs notes at m ≡ cond (ltb at m.until) m (met_kind kind (get_or notes at unnoted).end m)
-  unfolding met_node
-  same_node h = ap (λ (b : Bool). cond b (cond (ltb at m.until) m (met_kind kind (get_or notes at unnoted).end m)) m) (eq-eqb operand S h)
+  node_other h = rw (ne_eqb operand S h)
 
   pub node_hidden : at < m.until → met_node S xs notes at m ≡ m
+  unfolding met_node
   node_hidden l = go (ℕ_discrete operand S)
     where
       go : Dec (operand ≡ S) → met_node S xs notes at m ≡ m
-      go (yes e) = same_node e ∙ ap (λ (b : Bool). cond b m (met_kind kind (get_or notes at unnoted).end m)) (lt-ltb at m.until l)
+      go (yes e) = rw (eq-eqb operand S e, lt-ltb at m.until l)
       go (no h) = node_other h
 
-  node_open : operand ≡ S → m.until ≤ at → met_node S xs notes at m ≡ met_kind kind (get_or notes at unnoted).end m
-  node_open h l = same_node h ∙ ap (λ (b : Bool). cond b m (met_kind kind (get_or notes at unnoted).end m)) (le-ltb at m.until l)
-
   pub node_emit : kind ≡ 3 → operand ≡ S → m.until ≤ at → met_node S xs notes at m ≡ met true m.until
-  unfolding met_kind
-  node_emit k h l = node_open h l ∙ ap (λ (b : Bool). cond b (met true m.until) (cond (eqb kind 5) (met m.free (get_or notes at unnoted).end) m)) (eq-eqb kind 3 k)
-
-  not_emit : kind ≢ 3 → operand ≡ S → m.until ≤ at → met_node S xs notes at m ≡ cond (eqb kind 5) (met m.free (get_or notes at unnoted).end) m
-  unfolding met_kind
-  not_emit k h l = node_open h l ∙ ap (λ (b : Bool). cond b (met true m.until) (cond (eqb kind 5) (met m.free (get_or notes at unnoted).end) m)) (ne_eqb kind 3 k)
+  unfolding met_node met_kind
+  node_emit k h l = rw (eq-eqb operand S h, le-ltb at m.until l, eq-eqb kind 3 k)
 
   pub node_signal : kind ≡ 5 → operand ≡ S → m.until ≤ at → met_node S xs notes at m ≡ met m.free (get_or notes at unnoted).end
-  node_signal k h l =
-      not_emit (λ (e : kind ≡ 3). omega arith) h l ∙ ap (λ (b : Bool). cond b (met m.free (get_or notes at unnoted).end) m) (eq-eqb kind 5 k)
+  unfolding met_node met_kind
+  node_signal k h l = rw (eq-eqb operand S h, le-ltb at m.until l, ne_eqb kind 3 (λ (e : kind ≡ 3). omega arith), eq-eqb kind 5 k)
 
   node_neither : kind ≢ 3 → kind ≢ 5 → operand ≡ S → m.until ≤ at → met_node S xs notes at m ≡ m
-  node_neither e s h l = not_emit e h l ∙ ap (λ (b : Bool). cond b (met m.free (get_or notes at unnoted).end) m) (ne_eqb kind 5 s)
+  unfolding met_node met_kind
+  node_neither e s h l = rw (eq-eqb operand S h, le-ltb at m.until l, ne_eqb kind 3 e, ne_eqb kind 5 s)
 
   pub node_plain : kind ≢ 3 → kind ≢ 5 → met_node S xs notes at m ≡ m
   node_plain e s = go (ℕ_discrete operand S) (dec_lt at m.until)
@@ -243,28 +234,31 @@ module _ (S : ℕ) (xs : List ℕ) (notes : List Note) where
       by_place : (p : Statement) (i : ℕ) → place_at xs at ≡ placed p i → Scans at p → ScansAt at
       by_place p i e c = subst (Scans at) (sym (ap (λ (r : Placed). r.statement) e)) c
 
-      plain : (k : ℕ) → kind_of_node x ≡ k → (k ≡ 3 → ⊥) → (k ≡ 5 → ⊥) → (m : Met) → met_node S xs notes at m ≡ m
-      plain k e a b m = node_plain S xs notes at m (λ h. a (sym e ∙ h)) (λ h. b (sym e ∙ h))
+      -- a node of a kind that neither emits nor declares
+      plain : (k : ℕ) → kind_of_node x ≡ k → eqb k 3 ≡ false → eqb k 5 ≡ false → (m : Met) → met_node S xs notes at m ≡ m
+      plain k e a b m = node_plain S xs notes at m (λ h. clash (eq-eqb k 3 (sym e ∙ h)) a) (λ h. clash (eq-eqb k 5 (sym e ∙ h)) b)
+
+      leaf_below : (p : Statement) → place_at xs at ≡ placed p (at + 1) → size p ≡ 1 → emitted_free p ≡ 0 → ((m : Met) → met_node S xs notes at m ≡ m) → ScansAt at
+      leaf_below p o s g h = by_place p (at + 1) o (scans_leaf at p s g h)
 
       at_nothing : kind_of_node x ≡ 0 → ScansAt at
       unfolding size emitted_free
-      at_nothing e = by_place nothing (at + 1) (is_nothing_lem w e) (scans_leaf at nothing refl refl (plain 0 e (λ h. omega arith) (λ h. omega arith)))
+      at_nothing e = leaf_below nothing (is_nothing_lem w e) refl refl (plain 0 e refl refl)
 
       at_pause : kind_of_node x ≡ 1 → ScansAt at
       unfolding size emitted_free
-      at_pause e = by_place (pause (operand_of x)) (at + 1) (is_pause w e) (scans_leaf at (pause (operand_of x)) refl refl (plain 1 e (λ h. omega arith) (λ h. omega arith)))
+      at_pause e = leaf_below (pause (operand_of x)) (is_pause w e) refl refl (plain 1 e refl refl)
 
       at_gotopause : kind_of_node x ≡ 2 → ScansAt at
       unfolding size emitted_free
-      at_gotopause e =
-          by_place (gotopause (operand_of x)) (at + 1) (is_gotopause w e) (scans_leaf at (gotopause (operand_of x)) refl refl (plain 2 e (λ h. omega arith) (λ h. omega arith)))
+      at_gotopause e = leaf_below (gotopause (operand_of x)) (is_gotopause w e) refl refl (plain 2 e refl refl)
 
       at_emit : kind_of_node x ≡ 3 → ScansAt at
       at_emit e = by_place (emit (operand_of x)) (at + 1) (is_emit w e) (scans_emit at e (ℕ_discrete (operand_of x) S))
 
       at_exit : kind_of_node x ≡ 4 → ScansAt at
       unfolding size emitted_free
-      at_exit e = by_place (exit (operand_of x)) (at + 1) (is_exit w e) (scans_leaf at (exit (operand_of x)) refl refl (plain 4 e (λ h. omega arith) (λ h. omega arith)))
+      at_exit e = leaf_below (exit (operand_of x)) (is_exit w e) refl refl (plain 4 e refl refl)
 
       at_signal : kind_of_node x ≡ 5 → ScansAt at
       unfolding size
@@ -293,23 +287,23 @@ module _ (S : ℕ) (xs : List ℕ) (notes : List Note) where
 
       at_present : kind_of_node x ≡ 6 → ScansAt at
       unfolding size emitted_free
-      at_present e = two_below (present (operand_of x)) (is_present w e) (λ p q. refl) (λ p q. refl) (plain 6 e (λ h. omega arith) (λ h. omega arith))
+      at_present e = two_below (present (operand_of x)) (is_present w e) (λ p q. refl) (λ p q. refl) (plain 6 e refl refl)
 
       at_sequence : kind_of_node x ≡ 7 → ScansAt at
       unfolding size emitted_free
-      at_sequence e = two_below sequence (is_sequence w e) (λ p q. refl) (λ p q. refl) (plain 7 e (λ h. omega arith) (λ h. omega arith))
+      at_sequence e = two_below sequence (is_sequence w e) (λ p q. refl) (λ p q. refl) (plain 7 e refl refl)
 
       at_parallel : kind_of_node x ≡ 8 → ScansAt at
       unfolding size emitted_free
-      at_parallel e = two_below parallel (is_parallel w e) (λ p q. refl) (λ p q. refl) (plain 8 e (λ h. omega arith) (λ h. omega arith))
+      at_parallel e = two_below parallel (is_parallel w e) (λ p q. refl) (λ p q. refl) (plain 8 e refl refl)
 
       at_loop : kind_of_node x ≡ 9 → ScansAt at
       unfolding size emitted_free
-      at_loop e = one_below loop (is_loop w e) (λ p. refl) (λ p. refl) (plain 9 e (λ h. omega arith) (λ h. omega arith))
+      at_loop e = one_below loop (is_loop w e) (λ p. refl) (λ p. refl) (plain 9 e refl refl)
 
       at_try : kind_of_node x ≡ 10 → ScansAt at
       unfolding size emitted_free
-      at_try e = one_below try (is_try w e) (λ p. refl) (λ p. refl) (plain 10 e (λ h. omega arith) (λ h. omega arith))
+      at_try e = one_below try (is_try w e) (λ p. refl) (λ p. refl) (plain 10 e refl refl)
 
       at_kind : (k : ℕ) → kind_of_node x ≡ k → k ≤ 10 → ScansAt at
       at_kind zero e h = at_nothing e
@@ -338,9 +332,6 @@ pub record Tracked (xs : List ℕ) (notes : List Note) (at free : ℕ) (until : 
 module _ {n : ℕ} {xs : List ℕ} (notes : List Note) (right : EndsFrom 0 n xs notes) (whole : ReadWhole n xs 0) where
   pub first_end : (get_or notes 0 unnoted).end ≡ size (statement_of xs)
   first_end = let e = right 0 (omega arith) whole in let a = whole.full in let b = next_short xs 60 0 in omega arith
-
-  pub first_few : (get_or notes 0 unnoted).end ≤ n
-  first_few = let e = right 0 (omega arith) whole in let a = whole.within in omega arith
 
   pub tracked_all : KnownTo n xs → (at free : ℕ) (until : List ℕ) → at ≡ (get_or notes 0 unnoted).end → Tracked xs notes at free until → free ≡ emitted_free (statement_of xs)
   tracked_all known at free until e t = ext free (emitted_free (statement_of xs)) (λ S.

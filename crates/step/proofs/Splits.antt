@@ -23,16 +23,12 @@ use Rattle.rows.specs.declared.row.Row.{Row}
 use Rattle.rows.specs.inner.Area.{all_rows, Standing}
 use Rattle.lister.specs.declared.presence.Presence.{Presence}
 use Rattle.lister.specs.inner.Joins.{rows_under}
-use Rattle.lister.specs.inner.Slots.{Slotted}
 use Rattle.step.specs.declared.Stepped.{Stepped}
 use Rattle.step.specs.inner.Looking.{answered, found, merged, Looks}
 use Rattle.step.specs.inner.Unknowns.{Unknowns}
 use Rattle.step.proofs.Rows.{Joined, merged_answered}
 
 -- ---- the unknown signals
-pub slots_for : {A U : ℕ} → Unknowns A U → Slotted U U
-slots_for u = record { few = let f = u.few in omega arith; narrow = u.narrow; within = λ S h. h }
-
 -- one of them fewer
 module _ {A U less : ℕ} (s : ℕ) (h : has U s ≡ true) (e : less ≡ U without s) (u : Unknowns A U) where
   within_unknown : Within less U
@@ -107,21 +103,19 @@ looked_as {p} {x} {I} {v} {more} {less} {B} {V} e f l d =
 module _ {p : Statement} {x : State} {I A U : ℕ} (s : ℕ) (h : has U s ≡ true) where
   -- a refusal is one for all
   module _ {more less : ℕ} {w : Refusal} (e : less ≡ U without s) where
-    pub looks_present : more ≡ A union only s → Looks p x I more less (Err w) → Looks p x I A U (Err w)
+    looks_half : {B : ℕ} → more ≡ B → (Looked p x I B (U without s) crowded → Looked p x I A U crowded) → Looks p x I more less (Err w) → Looks p x I A U (Err w)
     unfolding found
-    looks_present f l = go l.all refl
+    looks_half f half l = go l.all refl
       where
         go : (v : Found) → l.all ≡ v → Looks p x I A U (Err w)
-        go crowded d = record { all = crowded; looked = looked_present s h (looked_as e f l d); result = l.result ∙ ap found d }
+        go crowded d = record { all = crowded; looked = half (looked_as e f l d); result = l.result ∙ ap found d }
         go (answer a) d = absurd (other_kind (l.result ∙ ap found d))
 
+    pub looks_present : more ≡ A union only s → Looks p x I more less (Err w) → Looks p x I A U (Err w)
+    looks_present f l = looks_half f (looked_present s h) l
+
     pub looks_absent : more ≡ A → Looks p x I more less (Err w) → Looks p x I A U (Err w)
-    unfolding found
-    looks_absent f l = go l.all refl
-      where
-        go : (v : Found) → l.all ≡ v → Looks p x I A U (Err w)
-        go crowded d = record { all = crowded; looked = looked_absent s (looked_as e f l d); result = l.result ∙ ap found d }
-        go (answer a) d = absurd (other_kind (l.result ∙ ap found d))
+    looks_absent f l = looks_half f (looked_absent s) l
 
   pub looks_both : {more less same fewer : ℕ} {r q t : Stepped} → less ≡ U without s → fewer ≡ U without s → more ≡ A union only s → same ≡ A
       → Unknowns A U → Looks p x I more less (Ok r) → Looks p x I same fewer (Ok q) → t ≡ merged r q → Looks p x I A U (Ok t)

@@ -30,11 +30,12 @@ step_in (holds n p) I mark X = step_for p (state_of mark X) I
 unfoldable pub step_of : List ℕ → ℕ → ℕ → ℕ → Outcome
 step_of t I mark X = step_in (table_of t) I mark X
 
--- what is said of an answer of step, case by case: the refusal, or its values
+-- the same values of the answer that the code gives
 unfoldable pub stepped_values : Stepped → List ℕ
 stepped_values (One E O k L) = 0 ∷ E ∷ O ∷ k ∷ L ∷ []
 stepped_values None = 1 ∷ []
 stepped_values Several = 2 ∷ []
 
+-- what is said of an answer of step: the number of its refusal, or its values
 abbrev pub stepped_outcome : Result Stepped Refusal → Outcome
 stepped_outcome = outcome stepped_values

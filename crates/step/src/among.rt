@@ -1,4 +1,5 @@
-// The sets E that agree with `assumed` outside `unknown`.
+// The sets E that agree with `assumed` outside `unknown`. It is no `lister::Presence`, which has methods like these: what holds of that is
+// that the unknown signals have slots, and of this that they are at most 10 and apart from the assumed ones, before any has a slot.
 ghost use Rattle.std.specs.Prelude.{◌≡◌, true};
 ghost use Rattle.sets.specs.Set.{has, only, ◌union◌, ◌without◌};
 ghost use Rattle.step.specs.inner.Unknowns.{Unknowns};

@@ -1,7 +1,7 @@
 // The signals that are emitted outside a declaration of them, in one pass over the nodes of a prepared table.
 ghost use Rattle.std.specs.Prelude.{◌≡◌};
 ghost use Rattle.esterel.specs.Stepping.{emitted_free};
-ghost use Rattle.table.specs.inner.Places.{statement_of};
+ghost use Rattle.list.specs.inner.Preparing.{statement_in};
 
 use list::Program;
 use table::{kind_of, operand_of};
@@ -9,10 +9,11 @@ use table::{kind_of, operand_of};
 // The numbers that an operand may be.
 const OPERANDS: usize = 64;
 
-// `until` has for each signal the place where the outermost declaration of it ends that was met last. Nodes of
+// `until` has for each signal the place where the outermost declaration of it ends that was met last, 0 where none was: no place is below
+// that. Nodes of
 // other kinds than emit and signal emit and declare nothing, so whether they are passed over changes nothing.
 pub fn emitted_free(program: &Program) -> u64
-    ensures { result ≡ emitted_free (statement_of program.now.prepared.now.noted.nodes) }
+    ensures { result ≡ emitted_free (statement_in program.now) }
 {
     let noted = &program.prepared.noted;
     let mut until = [0u16; OPERANDS];

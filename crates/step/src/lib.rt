@@ -14,8 +14,10 @@ ghost use Rattle.std.specs.Prelude.{◌≡◌};
 ghost use Rattle.step.specs.Answers.{step_of, stepped_outcome};
 
 use among::Among;
+use list::State;
 use lister::Prepared;
 use looking::Question;
+use std::cell::Cell;
 use table::Refusal;
 
 // "17 if over 10 different signals are emitted outside a declaration of them"
@@ -47,12 +49,12 @@ pub fn step(table: &[u8], provided: u32, mark: u32, labels: u64) -> Result<Stepp
     let assumed = provided as u64;
     let unknown = sets::minus(free, assumed);
     let among = Among { assumed, unknown };
-    let state = list::state_of(mark, labels);
+    let state = State::from((mark, labels));
     let question = Question {
         program,
         provided,
         state,
+        limit: Cell::new(MOST_FREE),
     };
-    let mut limit = MOST_FREE;
-    question.look(among, &mut limit)
+    question.look(among)
 }

@@ -1,12 +1,11 @@
 // Looking for steps under many assumed sets at once.
 ghost use Rattle.std.specs.Prelude.{◌≡◌, ◌+◌, ◌≤◌};
-ghost use Rattle.table.specs.inner.Places.{statement_of};
 ghost use Rattle.esterel.specs.inner.Conditions.{seen};
 ghost use Rattle.esterel.specs.Stepping.{one};
 ghost use Rattle.esterel.specs.inner.Stepping.{row_assumed, row_steps, rows_answer};
 ghost use Rattle.rows.specs.inner.Layout.{unpacked};
 ghost use Rattle.rows.specs.inner.Area.{all_rows};
-ghost use Rattle.list.specs.inner.Preparing.{state_in};
+ghost use Rattle.list.specs.inner.Preparing.{state_in, statement_in};
 ghost use Rattle.step.specs.inner.Looking.{answered, merged, Attempts, Tries, Looks};
 
 use crate::Stepped;
@@ -14,6 +13,7 @@ use crate::among::Among;
 use list::{LARGE, Program, SMALL, State};
 use lister::Presence;
 use rows::{MOST, Row, Unlisted};
+use std::cell::Cell;
 use table::Refusal;
 
 // The slots of the members of a set.
@@ -49,12 +49,14 @@ fn limit_after(many: u8, n: usize) -> u8
     if n <= MOST / 2 { many + 1 } else { many }
 }
 
-// A state of a program, and the signals that are provided there.
-#[derive(Clone, Copy)]
+// A state of a program, and the signals that are provided there. `limit` is with how many unknown signals at most a list is worth
+// trying: neighbours give up alike, so it goes on from one list to the next. It is in a cell, since no answer depends on it.
+#[derive(Drop)]
 pub struct Question<'a> {
     pub program: Program<'a>,
     pub provided: u32,
     pub state: State,
+    pub limit: Cell<u8>,
 }
 
 impl Question<'_> {
@@ -102,23 +104,23 @@ impl Question<'_> {
     // The steps under many sets, from one list of rows in an area of so many, which stands in a frame of its own: `look` calls itself.
     // A list is not tried where more signals are unknown than `limit`, since it would be in vain.
     #[inline(never)]
-    fn attempt<const ROOM: usize>(&self, among: Among, limit: &mut u8) -> Result<Stepped, Unlisted>
+    fn attempt<const ROOM: usize>(&self, among: Among) -> Result<Stepped, Unlisted>
         requires { ROOM ≤ 3905 }
-        ensures { Attempts (statement_of self.now.program.prepared.now.noted.nodes) (state_in self.now.state) self.now.provided among.assumed among.unknown ROOM result }
+        ensures { Attempts (statement_in self.now.program) (state_in self.now.state) self.now.provided among.assumed among.unknown ROOM result }
     {
         let many = sets::count(among.unknown);
-        if *limit < many {
+        if self.limit.get() < many {
             return Err(Unlisted::Over);
         }
         let mut area = [Row::NOTHING; ROOM];
         let signals = self.program.presence(among.assumed, among.unknown);
         match self.program.rows_in(&signals, self.state, &mut area) {
             Ok(n) => {
-                *limit = limit_after(many, n);
+                self.limit.set(limit_after(many, n));
                 Ok(self.gather(&area[..n], &signals))
             }
             Err(Unlisted::Over) => {
-                *limit = many.saturating_sub(1);
+                self.limit.set(many.saturating_sub(1));
                 Err(Unlisted::Over)
             }
             Err(why) => Err(why),
@@ -126,31 +128,30 @@ impl Question<'_> {
     }
 
     // The same in an area that most lists have room in, or else in one that is never too small; none where the list gave up.
-    fn tried(&self, among: Among, limit: &mut u8) -> Option<Stepped>
-        ensures { Tries (statement_of self.now.program.prepared.now.noted.nodes) (state_in self.now.state) self.now.provided among.assumed among.unknown result }
+    fn tried(&self, among: Among) -> Option<Stepped>
+        ensures { Tries (statement_in self.now.program) (state_in self.now.state) self.now.provided among.assumed among.unknown result }
     {
-        match self.attempt::<SMALL>(among, limit) {
+        match self.attempt::<SMALL>(among) {
             Ok(stepped) => Some(stepped),
             Err(Unlisted::Over) => None,
-            Err(_) => self.attempt::<LARGE>(among, limit).ok(),
+            Err(_) => self.attempt::<LARGE>(among).ok(),
         }
     }
 
     // The steps under many sets: from one list of rows, or, where that gives up, with one of the unknown signals present and with it
-    // absent. Under one set alone giving up is refusal 15. Neighbours give up alike, so `limit` goes on from one to the next; it
-    // changes no answer.
-    pub fn look(&self, among: Among, limit: &mut u8) -> Result<Stepped, Refusal>
-        ensures { Looks (statement_of self.now.program.prepared.now.noted.nodes) (state_in self.now.state) self.now.provided among.assumed among.unknown result }
+    // absent. Under one set alone giving up is refusal 15.
+    pub fn look(&self, among: Among) -> Result<Stepped, Refusal>
+        ensures { Looks (statement_in self.now.program) (state_in self.now.state) self.now.provided among.assumed among.unknown result }
     {
-        if let Some(stepped) = self.tried(among, limit) {
+        if let Some(stepped) = self.tried(among) {
             return Ok(stepped);
         }
         if among.unknown == 0 {
             return Err(Refusal::Crowded);
         }
         let signal = sets::least(among.unknown);
-        let present = self.look(among.with(signal), limit)?;
-        let absent = self.look(among.without(signal), limit)?;
+        let present = self.look(among.with(signal))?;
+        let absent = self.look(among.without(signal))?;
         Ok(combined(present, absent))
     }
 }

@@ -1,6 +1,4 @@
 -- A refusal is passed on; else the reactions of the area are delivered.
-use Prim.Native.Nat.{◌/◌}
-use lib.ListN.{length}
 use mathlib.Core.Path.{refl, sym, ap, ◌∙◌}
 use Rattle.std.proofs.lemmas.Result.{err_from_is_err_and}
 use Rattle.table.specs.Reading.{table_of}
@@ -13,20 +11,16 @@ pub returns-in_err-program : goal.returns-in_err-program
 unfolding list_of
 returns-in_err-program g c =
     let p = err_from_is_err_and c.from_residual.result c.from_residual.ensures.1 in
-    let asked = list_at_lem (table_of c.args.table.now) c.args.assumed c.args.mark c.args.labels refl in
-    rw (p.1, p.2) (refused_as _ _ (passed_on _ _ _ (sym asked ∙ unready_refused c.in_err-program.ensures _ c.args.assumed)) g.O.Place.spell g.L.Place.spell c.args.o.now c.args.k.now c.args.l.now)
+    rw (p.1, p.2) (refused_as _ (passed_on _ _ _ (sym (list_at_lem (table_of c.args.table.now) c.args.assumed c.args.mark c.args.labels refl) ∙ unready_refused c.in_err-program.ensures.prepares _ _)))
 
 pub returns-in_err-n : goal.returns-in_err-n
 unfolding list_of
 returns-in_err-n g c =
     let p = err_from_is_err_and c.from_residual-in_err-n.result c.from_residual-in_err-n.ensures.1 in
-    let asked = list_at_lem (table_of c.args.table.now) c.args.assumed c.args.mark c.args.labels c.state_of-state.ensures in
-    rw (p.1, p.2) (refused_as _ _ (passed_on _ _ _ (sym asked ∙ ready_limited c.in_ok-program.ensures _ c.args.assumed ∙ c.in_err-n.ensures)) g.O.Place.spell g.L.Place.spell c.args.o.now c.args.k.now c.args.l.now)
+    rw (p.1, p.2) (refused_as _ (passed_on _ _ _ (sym (list_at_lem (table_of c.args.table.now) c.args.assumed _ _ c.from-state.ensures) ∙ ready_limited c.in_ok-program.ensures.prepares _ c.args.assumed ∙ c.in_err-n.ensures)))
 
 pub returns : goal.returns
 unfolding list_of
 returns g c =
     delivered_as c.deliver.ensures
-    (ap (fitted (length c.args.o.now / g.O.Place.width) (length c.args.k.now) (length c.args.l.now / g.L.Place.width))
-    (sym c.in_ok-n.ensures.0 ∙ sym (ready_limited c.in_ok-program.ensures _ c.args.assumed)
-    ∙ list_at_lem (table_of c.args.table.now) c.args.assumed c.args.mark c.args.labels c.state_of-state.ensures))
+    (ap (fitted _ _ _) (sym c.in_ok-n.ensures.0 ∙ sym (ready_limited c.in_ok-program.ensures.prepares _ c.args.assumed) ∙ list_at_lem (table_of c.args.table.now) c.args.assumed _ _ c.from-state.ensures))

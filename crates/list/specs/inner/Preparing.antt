@@ -18,6 +18,10 @@ unfoldable pub state_in : Asked → State
 state_in Start = start
 state_in (Resumed X) = resumed X
 
+-- the statement that a program stands for
+abbrev pub statement_in : Program → Statement
+statement_in p = statement_of p.prepared.now.noted.nodes
+
 -- what listing comes to in a state of a table, and of a statement whose nesting is not refused
 unfoldable pub list_at : Table → State → ℕ → Listing
 list_at (table.refused w) x E = refused w

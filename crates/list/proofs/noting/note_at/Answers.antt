@@ -5,7 +5,7 @@ use lib.ListN.{get_or}
 use Rattle.lister.specs.declared.noted.Note.{Note}
 use Rattle.lister.specs.inner.Notes.{unnoted}
 use native.Mathlib.Omega.{arith}
-use Rattle.list.proofs.Passing.{noted, noted_nothing, noted_pause, noted_leaf, noted_signal, noted_body, noted_pair, never_noted}
+use Rattle.list.proofs.Passing.{noted, noted_nothing, noted_pause, noted_leaf, noted_signal, noted_body, noted_pair}
 use Rattle.list.proofs.noting.note_at.Goals as goal
 
 pub returns-in-0 : goal.returns-in-0
@@ -31,9 +31,3 @@ returns-in-6-to-8 c =
 
 pub returns-in-9-to-10 : goal.returns-in-9-to-10
 returns-in-9-to-10 c = λ n xs came. noted_body came _ c.kind_of.ensures (omega arith) (omega arith) c.at_place-in-9-to-10.ensures
-
-pub returns-in-11-to-15 : goal.returns-in-11-to-15
-returns-in-11-to-15 c = λ n xs came. never_noted came _ c.kind_of.ensures (omega arith)
-
-pub returns-in_default : goal.returns-in_default
-returns-in_default c = λ n xs came. never_noted came _ c.kind_of.ensures (omega arith)

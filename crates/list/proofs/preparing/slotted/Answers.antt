@@ -3,20 +3,14 @@ use mathlib.Core.Path.{ap, ◌∙◌}
 use Prim.Native.Nat.{ℕ}
 use native.Mathlib.Omega.{arith}
 use Rattle.sets.specs.Set.{only, ◌union◌}
-use Rattle.list.proofs.Slotting.{taken_none, taken_more, taken_slotted}
+use Rattle.list.proofs.Slotting.{taken_none, taken_more}
 use Rattle.list.proofs.preparing.slotted.Goals as goal
 
 pub loop-node-init : goal.loop-node-init
 loop-node-init c = taken_none c.requires c.count-used.ensures
-
-pub returns-then-used-eq-MOST_SLOTS : goal.returns-then-used-eq-MOST_SLOTS
-returns-then-used-eq-MOST_SLOTS c = taken_slotted c.loop-node.invariant.1 c.loop-node.invariant.0
 
 pub loop-node-preserved : goal.loop-node-preserved
 loop-node-preserved c = (
   omega arith,
   taken_more _ c.loop-node.invariant.1 (c.declares.ensures c.if-not-declares.false) (c.with-set.ensures ∙ ap (λ (z : ℕ). c.loop-node.set union only z) c.operand_of.ensures),
 )
-
-pub returns-in-None : goal.returns-in-None
-returns-in-None c = taken_slotted c.loop-node.invariant.1 c.loop-node.invariant.0

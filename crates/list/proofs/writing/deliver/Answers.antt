@@ -9,22 +9,20 @@ use Rattle.list.proofs.writing.deliver.Goals as goal
 
 pub returns-then-places-rows : goal.returns-then-places-rows
 returns-then-places-rows g c =
-    refused_as _ Places (short _ _ _ _ c.places.ensures c.min.ensures c.places-2.ensures c.min-places.ensures c.args.rows.now refl c.if-places-rows.true)
-    g.O.Place.spell g.L.Place.spell c.args.o.now c.args.k.now c.args.l.now
+    refused_as Places (short _ _ _ _ c.places.ensures c.min.ensures c.places-2.ensures c.min-places.ensures _ refl c.if-places-rows.true)
 
 pub loop-i-init : goal.loop-i-init
-loop-i-init g c =
-    filling_none g.O.Place.spell g.O.Place.width g.L.Place.spell g.L.Place.width c.args.rows.now c.args.o.now c.args.k.now c.args.l.now
+loop-i-init g c = filling_none
 
 pub loop-i-preserved : goal.loop-i-preserved
 loop-i-preserved g c =
-    filling_step g.O.Place.spell g.O.Place.width g.L.Place.spell g.L.Place.width c.args.rows.now c.args.o.now c.args.k.now c.args.l.now c.loop-i.invariant
+    filling_step c.loop-i.invariant
     _ _ _ _ c.loop-i-test.true c.emitted.ensures.0 c.put.auto.buffer c.put.ensures c.code.ensures.0 c.labels.ensures c.put-in-loop-i.auto.buffer
     c.put-in-loop-i.ensures c.places.ensures c.min.ensures c.places-2.ensures (omega arith)
 
 pub returns : goal.returns
 returns g c =
-    let all = filling_all g.O.Place.spell g.O.Place.width g.L.Place.spell g.L.Place.width c.args.rows.now c.args.o.now c.args.k.now c.args.l.now c.loop-i.invariant (omega arith) in
-    listed_as _ _ _
-    (long_enough _ _ _ _ c.places.ensures c.min.ensures c.places-2.ensures c.min-places.ensures c.args.rows.now refl c.if-places-rows.false)
+    let all = filling_all c.loop-i.invariant (omega arith) in
+    listed_as
+    (long_enough _ _ _ _ c.places.ensures c.min.ensures c.places-2.ensures c.min-places.ensures _ refl c.if-places-rows.false)
     (sym (held_length c.args.rows.now)) all.0 all.1 all.2

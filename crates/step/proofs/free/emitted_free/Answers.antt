@@ -2,17 +2,12 @@
 use mathlib.Core.Path.{◌≡◌, sym, ◌∙◌}
 use native.Mathlib.Omega.{arith}
 use borrow.Author.Rules.{rules}
-use Rattle.step.proofs.Scanning.{first_few, zeros_at, tracked_none, tracked_hidden, tracked_plain, tracked_emit, tracked_signal, tracked_is, tracked_all}
+use Rattle.step.proofs.Scanning.{zeros_at, tracked_none, tracked_hidden, tracked_plain, tracked_emit, tracked_signal, tracked_is, tracked_all}
 use Rattle.step.proofs.free.emitted_free.Goals as goal
 use Rattle.step.proofs.free.emitted_free.Goals.{in-3, in-5, in_default}
 
 pub loop-at-init : goal.loop-at-init
 loop-at-init c = tracked_none _ _ _ (search rules) zeros_at
-
-pub bounds-noted-at : goal.bounds-noted-at
-bounds-noted-at c =
-    let noted = c.args.program.now.prepared.now.noted in
-    omega (arith, first_few noted.notes noted.ends c.args.program.now.whole, noted.few)
 
 pub loop-at-preserved-then-at-until : goal.loop-at-preserved-then-at-until
 loop-at-preserved-then-at-until c = tracked_hidden c.loop-at.invariant _ c.operand_of-signal.ensures c.if-at-until.true

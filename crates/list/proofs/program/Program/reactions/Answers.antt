@@ -1,5 +1,5 @@
 -- By what the lister gives.
-use Rattle.list.proofs.Limits.{found_listed, found_none}
+use Rattle.list.proofs.Limits.{found_listed, found_none, found_through}
 use Rattle.list.proofs.Slotting.{none_slotted}
 use Rattle.list.proofs.program.Program.reactions.Goals as goal
 
@@ -11,7 +11,12 @@ returns-in-Ok c =
     let signals = c.presence-signals in
     found_listed signals.result _ _ c.args.assumed signals.ensures.assumed signals.ensures.unknown _ c.in-Ok.ensures
 
+pub returns-in-Err-Over : goal.returns-in-Err-Over
+returns-in-Err-Over c =
+    let signals = c.presence-signals in
+    found_none signals.result _ _ c.args.assumed signals.ensures.assumed signals.ensures.unknown c.rows_in.new.area (rw c.in-Err-Over.field-0-is at c.in-Err-Over.ensures)
+
 pub returns-in-Err : goal.returns-in-Err
 returns-in-Err c =
     let signals = c.presence-signals in
-    found_none signals.result _ _ c.args.assumed signals.ensures.assumed signals.ensures.unknown _ c.in-Err.field-0 c.in-Err.ensures
+    rw c.or.ensures (found_through signals.result _ _ c.args.assumed signals.ensures.assumed signals.ensures.unknown _ c.rows_through.result c.rows_through.ensures)

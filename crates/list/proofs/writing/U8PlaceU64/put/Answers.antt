@@ -1,7 +1,10 @@
 -- All of its bytes are put.
+use mathlib.Core.Path.{◌∙◌}
 use Prim.Native.Nat.{◌*◌}
-use Rattle.list.proofs.Fills.{pasted_is}
+use native.Mathlib.Omega.{arith}
+use Rattle.list.proofs.Fills.{put_is}
 use Rattle.list.proofs.writing.U8PlaceU64.put.Goals as goal
 
 pub returns : goal.returns
-returns c = pasted_is 8 c.args.number (8 * c.args.place) c.args.buffer.now _ c.put_bytes.ensures
+returns c =
+    put_is 8 c.args.number (8 * c.args.place) _ c.args.buffer.now _ (omega arith) (c.copy_from_slice.ensures.after ∙ c.to_be_bytes.ensures) (omega (arith, c.requires))
