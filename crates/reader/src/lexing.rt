@@ -17,7 +17,7 @@ impl<'a> Rest<'a> {
     ghost use Rattle.std.specs.Prelude.{◌≡◌};
     ghost use Rattle.text.specs.Spelling.{last_of};
     ghost use Rattle.text.specs.inner.Lexer.{is_letter};
-    ghost use Rattle.reader.specs.inner.Ending.{Begun, Before, Words, Numbers, Signals, Skipped, Three};
+    ghost use Rattle.reader.specs.inner.Ending.{Begun, Stripped, Words, Numbers, Signals, Skipped, Three};
 
     // A text of which nothing was taken; none where it begins with a blank.
     #[tactic(auto, using(crate::proofs::Bytes::no_blank), unfolding(crate::specs::inner::Blanks::blank_byte))]
@@ -40,7 +40,7 @@ impl<'a> Rest<'a> {
 
     // What stands before the bytes that it ends in.
     pub fn before(self, bytes: &[u8]) -> Option<Rest<'a>>
-        ensures { Before self.entry.bytes.now bytes.now result }
+        ensures { Stripped self.entry.bytes.now bytes.now result }
     {
         let before = self.bytes.strip_suffix(bytes)?;
         Some(Rest { bytes: before })

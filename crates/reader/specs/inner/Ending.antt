@@ -19,9 +19,9 @@ Begun u None = blank_byte (get_or u 0 0) ≡ true
 Begun u (Some x) = x.bytes.now ≡ u
 
 -- what stands before the bytes ls that u ends in
-abbrev pub Before : List ℕ → List ℕ → Option Rest → Type 0
-Before u ls None = (v : List ℕ) → u ≡ v ++ ls → ⊥
-Before u ls (Some x) = u ≡ x.bytes.now ++ ls
+abbrev pub Stripped : List ℕ → List ℕ → Option Rest → Type 0
+Stripped u ls None = (v : List ℕ) → u ≡ v ++ ls → ⊥
+Stripped u ls (Some x) = u ≡ x.bytes.now ++ ls
 
 -- u ends in the letters ls of a word, and no letter stands before them
 pub record Worded (u ls v : List ℕ) : Type 0 where
