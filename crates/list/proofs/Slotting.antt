@@ -7,7 +7,7 @@ use native.Mathlib.Omega.{arith}
 use Rattle.sets.specs.Set.{has, only, ◌union◌, Within, count}
 use Rattle.sets.proofs.Booleans.{or_cases, clash}
 use Rattle.sets.proofs.Counts.{count_empty, count_only, count_union, count_narrow}
-use Rattle.sets.proofs.Members.{has_empty, has_union, has_only_equal, in_left}
+use Rattle.sets.proofs.Members.{has_empty, has_union, has_only_equal, in_left, in_right}
 use Rattle.esterel.specs.inner.Conditions.{slot_of}
 use Rattle.lister.specs.inner.Slots.{Slotted}
 
@@ -43,3 +43,18 @@ taken_more {U} {M} {N} {used} s t h e = subst (λ (L : ℕ). Taken U L (used + 1
 -- no signal is unknown
 pub none_slotted : Slotted 0 0
 none_slotted = record { few = let e = count_empty 32 in omega arith; narrow = λ S h. clash h (has_empty S); within = λ S h. h }
+
+-- those that are unknown beside those that were chosen for none, where there is room for both
+pub joined_slotted : {M U : ℕ} → Slotted M 0 → Slotted U U → count 64 (M union U) ≤ 12 → Slotted (M union U) U
+joined_slotted {M} {U} m u h = record {
+  few = let f = count_narrow (M union U) 32 32 narrow in omega arith;
+  narrow = narrow;
+  within = λ S e. in_right M U S e;
+}
+  where
+    go : (S : ℕ) → (has M S ≡ true) ⊎ (has U S ≡ true) → S < 32
+    go S (inl g) = m.narrow S g
+    go S (inr g) = u.narrow S g
+
+    narrow : (S : ℕ) → has (M union U) S ≡ true → S < 32
+    narrow S e = go S (or_cases (has M S) (has U S) (sym (has_union M U S) ∙ e))

@@ -8,7 +8,7 @@ ghost use Rattle.list.specs.inner.Preparing.{state_in, statement_in, limited};
 ghost use Rattle.list.specs.inner.Finding.{Finds};
 
 use crate::State;
-use crate::preparing::slotted;
+use crate::preparing::{MOST_SLOTS, slotted};
 use crate::program::Program;
 use lister::Presence;
 use rows::{Row, Unlisted};
@@ -20,16 +20,18 @@ pub const LARGE: usize = 3905;
 impl Program<'_> {
     // Which signals are present, where those of `assumed` are and no others, but for some that are unknown: these have slots, and with
     // them as many of those that are declared as there are slots for.
+    // Where there is room for all that were chosen once, no node is looked at again.
     pub fn presence(&self, assumed: u64, unknown: u64) -> Presence
         requires { Slotted unknown unknown }
         ensures assumed { result.assumed ≡ assumed }
         ensures unknown { result.unknown ≡ unknown }
     {
         let noted = &self.prepared.noted;
-        let slotted = if noted.notes[0].nest == 0 {
-            unknown
+        let both = self.slotted | unknown;
+        let slotted = if sets::count(both) <= MOST_SLOTS {
+            both
         } else {
-            slotted(&noted.nodes[..noted.count], unknown)
+            slotted(&noted.nodes[..noted.count], noted.notes[0].nest, unknown)
         };
         Presence {
             assumed,

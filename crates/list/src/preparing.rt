@@ -1,5 +1,6 @@
 // A table made ready, once, for listing any of its states under any assumed set: its nodes decoded and checked, and what the lister
-// asks of each noted. And the choice of the signals that may be unknown, made anew for each set of those that are.
+// asks of each noted. And the choice of the signals that may be unknown: made with it for lists that begin with none unknown, and anew
+// for each set of those that are.
 ghost use Rattle.std.specs.Prelude.{◌≡◌, true, ◌<◌, IfOk};
 ghost use Rattle.table.specs.Reading.{table_of, operand_of};
 ghost use Rattle.table.specs.inner.Places.{Known};
@@ -12,7 +13,7 @@ use lister::{MOST_NESTED, Prepared};
 use table::{Refusal, kind_of, operand_of};
 
 // The most signals that may be unknown: a condition has a slot for each.
-const MOST_SLOTS: u8 = 12;
+pub const MOST_SLOTS: u8 = 12;
 
 // Signals are numbers below this.
 const SIGNALS: u8 = 32;
@@ -26,11 +27,16 @@ fn declares(set: u64, node: u16) -> bool
 }
 
 // The signals that may be unknown: those that are, and the last that the nodes declare. Where one has no slot, every list around it
-// in which a signal is unknown is given up, so those without stand outside.
-pub fn slotted(nodes: &[u16], unknown: u64) -> u64
+// in which a signal is unknown is given up, so those without stand outside. No node is looked at where `nest` says that none declares.
+// It is not put into its callers: there the loop took half as many instructions again for each node.
+#[inline(never)]
+pub fn slotted(nodes: &[u16], nest: u8, unknown: u64) -> u64
     requires { Slotted unknown unknown }
     ensures { Slotted result unknown }
 {
+    if nest == 0 {
+        return unknown;
+    }
     let mut set = unknown;
     let mut used = sets::count(unknown);
     for node in nodes.iter().rev() {
@@ -64,6 +70,10 @@ pub fn prepare<'a>(table: &[u8], room: &'a mut Prepared) -> Result<Program<'a>, 
     if MOST_NESTED < noted.notes[0].nest {
         return Err(Refusal::Nesting);
     }
+    let slotted = slotted(&noted.nodes[..count], noted.notes[0].nest, 0);
     noted.count = count;
-    Ok(Program { prepared: room })
+    Ok(Program {
+        prepared: room,
+        slotted,
+    })
 }

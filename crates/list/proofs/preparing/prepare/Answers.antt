@@ -2,6 +2,7 @@
 use native.Mathlib.Omega.{arith}
 use Rattle.lister.proofs.Nodes.{none_whole}
 use Rattle.list.proofs.Limits.{loaded_known, loaded_unready, loaded_counted, noted_ends, noted_pauses, noted_deep, noted_ready}
+use Rattle.list.proofs.Slotting.{none_slotted}
 use Rattle.list.proofs.preparing.prepare.Goals as goal
 
 pub invariant_of-noted : goal.invariant_of-noted
@@ -25,6 +26,12 @@ invariant_of-room-then-noted-gt-MOST_NESTED c = record { labels = λ at i w. abs
 pub returns-then-noted-gt-MOST_NESTED-clause-prepares : goal.returns-then-noted-gt-MOST_NESTED-clause-prepares
 returns-then-noted-gt-MOST_NESTED-clause-prepares c = noted_deep _ _ c.load-loaded.ensures c.in-Ok.is c.in_ok-note_all.ensures c.if-noted-gt-MOST_NESTED.true
 
+pub shared_ref_as_front-slotted : goal.shared_ref_as_front-slotted
+shared_ref_as_front-slotted c = (loaded_counted _ _ c.load-loaded.ensures c.in-Ok.is).over.few
+
+pub slotted-slotted-requires : goal.slotted-slotted-requires
+slotted-slotted-requires c = none_slotted
+
 pub invariant_of-noted-2 : goal.invariant_of-noted-2
 invariant_of-noted-2 c =
     let counted = loaded_counted _ _ c.load-loaded.ensures c.in-Ok.is in
@@ -34,7 +41,7 @@ pub invariant_of-room-2 : goal.invariant_of-room-2
 invariant_of-room-2 c = record { labels = noted_pauses _ _ c.load-loaded.ensures c.in-Ok.is c.in_ok-note_all.ensures }
 
 pub invariant_of-result : goal.invariant_of-result
-invariant_of-result c = record { whole = (loaded_counted _ _ c.load-loaded.ensures c.in-Ok.is).whole }
+invariant_of-result c = record { whole = (loaded_counted _ _ c.load-loaded.ensures c.in-Ok.is).whole; slots = c.slotted-slotted.ensures }
 
 pub returns-clause-prepares : goal.returns-clause-prepares
 returns-clause-prepares c = noted_ready _ _ c.load-loaded.ensures c.in-Ok.is c.in_ok-note_all.ensures c.if-noted-gt-MOST_NESTED.false
