@@ -24,7 +24,7 @@ pub enum Unlisted {
     Refused,
 }
 
-// Where a row stands in a list, or where it belongs. Most belong behind the last.
+// Where a row stands in a list, or where it belongs. Most belong behind the last, or are the last once more.
 pub(crate) fn search(list: &[Row], row: Row) -> Result<usize, usize>
     requires { InOrder (all_rows list.now) }
     ensures { Searched list.now (unpacked row) result }
@@ -32,6 +32,9 @@ pub(crate) fn search(list: &[Row], row: Row) -> Result<usize, usize>
     let n = list.len();
     if n == 0 || list[n - 1] < row {
         return Err(n);
+    }
+    if list[n - 1] == row {
+        return Ok(n - 1);
     }
     list.binary_search(&row)
 }

@@ -21,6 +21,17 @@ fn counted(area: &[Row], n: usize) -> Result<u8, Unlisted>
     }
 }
 
+// The rows of one slice over those of another, which has as many. A loop, since the library's `copy_from_slice` asks C for `memmove`,
+// and nothing else here does.
+fn copy_rows(to: &mut [Row], from: &[Row])
+    requires { length to.old ≡ length from.now }
+    ensures { to.new ≡ from.now }
+{
+    for (i, row) in from.iter().enumerate() {
+        to[i] = *row;
+    }
+}
+
 // The firsts and the rows from the place `mid` on set behind the kept ones in front, the smaller head first, and equal heads once.
 fn merge_down(list: &mut [Row], kept: usize, mid: usize, firsts: &[Row]) -> Result<u8, Unlisted>
     requires { Split list.old kept mid firsts.now }
@@ -50,7 +61,7 @@ fn merge_down(list: &mut [Row], kept: usize, mid: usize, firsts: &[Row]) -> Resu
         n += 1;
     }
     let rest = firsts.len() - i;
-    list[n..n + rest].copy_from_slice(&firsts[i..]);
+    copy_rows(&mut list[n..n + rest], &firsts[i..]);
     list.copy_within(j.., n + rest);
     counted(list, n + rest + (end - j))
 }
@@ -65,7 +76,7 @@ fn merge_both(area: &mut [Row], n1: usize, n2: usize) -> Result<u8, Unlisted>
     let (lists, top) = area.split_at_mut(n1 + n2);
     let rest = n1 - kept;
     let firsts = &mut top[..rest];
-    firsts.copy_from_slice(&lists[kept..n1]);
+    copy_rows(firsts, &lists[kept..n1]);
     merge_down(lists, kept, n1, firsts)
 }
 

@@ -29,6 +29,7 @@ pub trait Pairing {
 }
 
 // The second begins where the first ends.
+#[derive(Clone, Copy)]
 pub struct Sequence;
 
 impl Pairing for Sequence {
@@ -53,6 +54,7 @@ fn reached(code: Code, a: u64, b: u64) -> u64
 }
 
 // The two run side by side.
+#[derive(Clone, Copy)]
 pub struct Parallel;
 
 impl Pairing for Parallel {

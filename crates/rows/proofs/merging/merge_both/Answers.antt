@@ -16,8 +16,8 @@ slice_bounds-firsts-end c = omega (arith, c.requires.0.small, c.split_at_mut-lis
 pub slice_bounds-firsts-end-2 : goal.slice_bounds-firsts-end-2
 slice_bounds-firsts-end-2 c = sym (length-take _ c.split_at_mut-lists.result.1.now ∙ omega (arith, c.requires.0.small, c.split_at_mut-lists.ensures.back_len, c.requires.2))
 
-pub copy_from_slice-requires : goal.copy_from_slice-requires
-copy_from_slice-requires c =
+pub copy_rows-requires : goal.copy_rows-requires
+copy_rows-requires c =
     length-take _ c.split_at_mut-lists.result.1.now
     ∙ omega (
       arith,
@@ -36,8 +36,8 @@ merge_down-requires c =
       | in-Ok w ↦ rw w.kept-is (kept_there _ _ _ c.requires.0.first w.in-Ok.ensures)
       | in-Ok-2 w ↦ rw w.kept-is (kept_place _ _ _ c.requires.0.first w.in-Ok.ensures)
     ] in
-    split_made c.args.area.now c.split_at_mut-lists.result.0.now c.copy_from_slice.new.self c.args.n1 c.args.n2 c.match-search.kept nothing c.requires.0 c.requires.1 k
-    c.split_at_mut-lists.ensures.front c.copy_from_slice.ensures.after
+    split_made c.args.area.now c.split_at_mut-lists.result.0.now c.copy_rows.new.to c.args.n1 c.args.n2 c.match-search.kept nothing c.requires.0 c.requires.1 k
+    c.split_at_mut-lists.ensures.front c.copy_rows.ensures
 
 pub returns : goal.returns
 returns c =
@@ -46,5 +46,5 @@ returns c =
       | in-Ok w ↦ rw w.kept-is (kept_there _ _ _ c.requires.0.first w.in-Ok.ensures)
       | in-Ok-2 w ↦ rw w.kept-is (kept_place _ _ _ c.requires.0.first w.in-Ok.ensures)
     ] in
-    split_end c.args.area.now c.split_at_mut-lists.result.0.now c.copy_from_slice.new.self c.args.n1 c.args.n2 c.match-search.kept nothing c.requires.0 c.requires.1 k
-    c.split_at_mut-lists.ensures.front c.copy_from_slice.ensures.after _ _ c.merge_down.result c.merge_down.ensures
+    split_end c.args.area.now c.split_at_mut-lists.result.0.now c.copy_rows.new.to c.args.n1 c.args.n2 c.match-search.kept nothing c.requires.0 c.requires.1 k
+    c.split_at_mut-lists.ensures.front c.copy_rows.ensures _ _ c.merge_down.result c.merge_down.ensures

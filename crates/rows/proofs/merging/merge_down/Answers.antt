@@ -27,8 +27,8 @@ counted-requires c =
       | then-loop-i-test+else-j-end w ↦ inr (omega (arith, w.if-j-end.false))
       | else-loop-i-test w ↦ inl w.loop-i-test.false
     ] in
-    merged_in_order _ c.args.firsts.now c.loop-i.list c.loop-i.n c.loop-i.i c.loop-i.j c.loop-i.invariant done _ (length c.args.list.now) (omega arith) (omega arith) c.copy_from_slice.new.self _
-    c.copy_from_slice.ensures.after c.copy_within.ensures.after (omega arith) c.copy_within.ensures.len
+    merged_in_order _ c.args.firsts.now c.loop-i.list c.loop-i.n c.loop-i.i c.loop-i.j c.loop-i.invariant done _ (length c.args.list.now) (omega arith) (omega arith) c.copy_rows.new.to _
+    c.copy_rows.ensures c.copy_within.ensures.after (omega arith) c.copy_within.ensures.len
 
 pub returns : goal.returns
 returns c =
@@ -37,5 +37,5 @@ returns c =
       | then-loop-i-test+else-j-end w ↦ inr (omega (arith, w.if-j-end.false))
       | else-loop-i-test w ↦ inl w.loop-i-test.false
     ] in
-    merged_end _ c.args.firsts.now c.loop-i.list c.loop-i.n c.loop-i.i c.loop-i.j c.loop-i.invariant done _ (length c.args.list.now) (omega arith) (omega arith) c.copy_from_slice.new.self _
-    c.copy_from_slice.ensures.after c.copy_within.ensures.after (omega arith) c.copy_within.ensures.len 0 _ c.counted.result c.counted.ensures
+    merged_end _ c.args.firsts.now c.loop-i.list c.loop-i.n c.loop-i.i c.loop-i.j c.loop-i.invariant done _ (length c.args.list.now) (omega arith) (omega arith) c.copy_rows.new.to _
+    c.copy_rows.ensures c.copy_within.ensures.after (omega arith) c.copy_within.ensures.len 0 _ c.counted.result c.counted.ensures
