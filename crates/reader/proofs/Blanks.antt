@@ -1,12 +1,14 @@
 -- Blanks before a part: where something stands before them, the lexer finds the same without them.
-use Prim.Native.Nat.{ℕ, ◌-◌, ◌≤◌}
-use mathlib.Core.Path.{◌≡◌, refl, sym, ap, ◌∙◌}
+use Prim.Native.Nat.{ℕ, zero, suc, ◌+◌, ◌-◌, ◌≤◌, ◌<◌}
+use mathlib.Core.Path.{◌≡◌, refl, sym, ap, ◌∙◌, subst}
 use mathlib.Core.Logic.{◌⊎◌, inl, inr}
 use mathlib.Core.Bool.{true, false}
 use mathlib.Core.List.{List, [], ◌∷◌, ◌++◌}
+use native.Mathlib.Numerals.{add-one}
 use native.Mathlib.Omega.{arith}
 use lib.Dec.{eqb}
 use lib.ListN.{length, get_or, take, length-append}
+use lib.Seq.{take-suc, take-length}
 use borrow.Author.Tests.{eqb-true}
 use Rattle.sets.proofs.Booleans.{or_cases, clash}
 use Rattle.text.specs.Parts.{Part}
@@ -15,7 +17,7 @@ use Rattle.text.specs.inner.Lexer.{Class, letter, blank, semi, bar, opens, close
 use Rattle.text.proofs.Lexer.{class_blank, lex_append}
 use Rattle.reader.specs.inner.Ending.{Skipped}
 use Rattle.reader.specs.inner.Blanks.{blank_byte}
-use Rattle.reader.proofs.Bytes.{last_apart}
+use Rattle.reader.proofs.Bytes.{last_apart, last_snoc}
 
 -- ---- One blank
 
@@ -83,3 +85,26 @@ module _ (u v : List ℕ) (p : Passing u v) where
 
   pub skipped_to : blank_byte (last_of v) ≡ false → Skipped u v
   skipped_to e = record { below = p.below; begins = p.begins; solid = e; goes_on = p.goes_on }
+
+-- before the loop the whole text is left
+pub passing_all : (u : List ℕ) → eqb (length u) 0 ≡ false → blank_byte (get_or u 0 0) ≡ false → (length u - 1 < length u) × Passing u (take (length u - 1 + 1) u)
+passing_all [] n e = clash refl n
+passing_all (b ∷ u) n e =
+    let last : length (b ∷ u) - 1 + 1 ≡ length (b ∷ u) = omega arith in
+    let all : take (length (b ∷ u) - 1 + 1) (b ∷ u) ≡ b ∷ u = ap (λ (k : ℕ). take k (b ∷ u)) last ∙ take-length (b ∷ u) in
+    (omega arith, subst (λ (v : List ℕ). Passing (b ∷ u) v) (sym all) (passing_none (b ∷ u) e))
+
+-- a blank at a place of u is not its first byte, and is passed
+pub passing_back : (u : List ℕ) (i : ℕ) → i < length u → Passing u (take (i + 1) u) → blank_byte (get_or u i 0) ≡ true
+    → (1 ≤ i) × (i - 1 < length u) × Passing u (take (i - 1 + 1) u)
+passing_back [] i h p e = absurd (omega arith)
+passing_back (b ∷ u) zero h p e = clash e p.first
+passing_back (b ∷ u) (suc i) h p e =
+    let split : take (suc i + 1) (b ∷ u) ≡ take (suc i) (b ∷ u) ++ (get_or (b ∷ u) (suc i) 0 ∷ []) = ap (λ (n : ℕ). take n (b ∷ u)) (add-one (suc i)) ∙ take-suc (b ∷ u) (suc i) 0 h in
+    let back : suc i ≡ suc i - 1 + 1 = omega arith in
+    let left = passing_more (b ∷ u) (take (suc i + 1) (b ∷ u)) p (take (suc i) (b ∷ u)) (get_or (b ∷ u) (suc i) 0) split e in
+    (omega arith, omega arith, subst (λ (n : ℕ). Passing (b ∷ u) (take n (b ∷ u))) back left)
+
+-- what stands at a place of u is the last byte of what stands before the next
+pub last_to : (u : List ℕ) (i : ℕ) → i < length u → last_of (take (i + 1) u) ≡ get_or u i 0
+last_to u i h = ap (λ (n : ℕ). last_of (take n u)) (add-one i) ∙ ap last_of (take-suc u i 0 h) ∙ last_snoc (take i u) (get_or u i 0)

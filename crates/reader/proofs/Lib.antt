@@ -1,4 +1,5 @@
 pub mod Bytes
+pub mod Eights
 pub mod Blanks
 pub mod Fronts
 pub mod Endings

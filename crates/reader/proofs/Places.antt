@@ -1,16 +1,19 @@
 -- What stands before the bytes that a text ends in is the front of the text.
 use Prim.Native.Nat.{ℕ, ◌-◌, ◌≤◌, ◌<◌}
 use mathlib.Core.Path.{◌≡◌, refl, sym, ap, ◌∙◌}
-use mathlib.Core.Bool.{false}
-use mathlib.Core.List.{List, [], ◌∷◌, ◌++◌}
+use mathlib.Core.Bool.{true, false}
+use mathlib.Core.List.{List, [], ◌∷◌, ◌++◌, append_assoc}
 use native.Mathlib.Omega.{arith}
-use lib.ListN.{length, get_or, take, length-append}
+use lib.ListN.{length, get_or, take, drop, length-append}
 use lib.Seq.{take_at}
+use Rattle.std.proofs.lemmas.List.{take-append-drop}
+use Rattle.sets.proofs.Booleans.{clash}
 use Rattle.text.specs.Parts.{Part}
 use Rattle.text.specs.Spelling.{last_of}
+use Rattle.text.specs.inner.Lexer.{is_letter}
 use Rattle.text.proofs.Spelling.{nonempty_part}
 use Rattle.text.proofs.Decimal.{begins}
-use Rattle.reader.specs.inner.Ending.{Ending, Number, Skipped}
+use Rattle.reader.specs.inner.Ending.{Ending, Worded, Number, Skipped}
 use Rattle.reader.specs.inner.Blanks.{blank_byte}
 use Rattle.reader.proofs.Bytes.{last_apart, last_at}
 
@@ -46,3 +49,22 @@ pub same_front : (v w ls : List ℕ) → v ++ ls ≡ w ++ ls → v ≡ w
 same_front v w ls e =
     let l : length w ≡ length v = omega (arith, ap length e, length-append v ls, length-append w ls) in
     sym (take_at v ls (length v) refl) ∙ ap (take (length v)) e ∙ take_at w ls (length v) l
+
+-- ---- A word that is compared in two parts, its first n letters and the others
+
+module _ (u ls : List ℕ) (n : ℕ) where
+  apart : (v : List ℕ) → Worded u ls v → u ≡ (v ++ take n ls) ++ drop n ls
+  apart v W = W.spelt ∙ ap (λ (x : List ℕ). v ++ x) (sym (take-append-drop n ls)) ∙ sym (append_assoc v (take n ls) (drop n ls))
+
+  pub no_second : ((v : List ℕ) → u ≡ v ++ drop n ls → ⊥) → (v : List ℕ) → Worded u ls v → ⊥
+  no_second none v W = none (v ++ take n ls) (apart v W)
+
+  module _ (x : List ℕ) (e : u ≡ x ++ drop n ls) where
+    before_second : (v : List ℕ) → Worded u ls v → x ≡ v ++ take n ls
+    before_second v W = same_front x (v ++ take n ls) (drop n ls) (sym e ∙ apart v W)
+
+    pub no_first : ((v : List ℕ) → x ≡ v ++ take n ls → ⊥) → (v : List ℕ) → Worded u ls v → ⊥
+    no_first none v W = none v (before_second v W)
+
+    pub not_apart : (w : List ℕ) → x ≡ w ++ take n ls → is_letter (last_of w) ≡ true → (v : List ℕ) → Worded u ls v → ⊥
+    not_apart w f t v W = clash t (ap (λ (z : List ℕ). is_letter (last_of z)) (same_front w v (take n ls) (sym f ∙ before_second v W)) ∙ W.clear)

@@ -13,7 +13,7 @@ pub struct Frame {
     pub opened: Opened,
     pub after: bool,
     pub beside: bool,
-    pub behind: usize,
+    pub behind: u16,
 }
 
 pub const NO_FRAME: Frame = Frame {

@@ -1,10 +1,38 @@
 // What stands at the end of a text, which is taken apart from its end.
-ghost use Rattle.std.specs.Prelude.{◌≡◌, false, get_or};
+ghost use Rattle.std.specs.Prelude.{◌≡◌, ◌↔◌, true, false, drop, get_or};
+ghost use Rattle.text.specs.Parts.{Nothing};
+ghost use Rattle.text.specs.Spelling.{letters_of};
+ghost use Rattle.text.specs.inner.Lexer.{is_letter};
 ghost use Rattle.reader.specs.inner.Blanks.{blank_byte};
 
 // Where a number of three digits or more saturates: in no kind's range. Kept a number: 19 is given only when all of the text was read,
 // and until then a node is made of what is out of range too, for which an `Option` would need a number in its place.
 const HUGE: u8 = 100;
+
+// The letters of `nothing` as one number, the first in the lowest bits.
+const NOTHING: u64 = 0x67_6e69_6874_6f6e;
+
+#[tactic(auto, unfolding(crate::specs::inner::Blanks::blank_byte))]
+fn is_blank(byte: u8) -> bool
+    ensures { result ≡ blank_byte byte }
+{
+    matches!(byte, b' ' | b'\n')
+}
+
+// A byte of a word, a number, a signal or a pause. Joined by `|` these are three branches, where one `matches!` makes four.
+#[tactic(auto, unfolding(text::specs::inner::Lexer::is_letter))]
+fn is_letter(byte: u8) -> bool
+    ensures { result ≡ is_letter byte }
+{
+    matches!(byte, b'0'..=b':') | (byte == b'S') | matches!(byte, b'a'..=b'z')
+}
+
+// Whether `nothing` stands behind the first of eight bytes: one comparison of a number, where `word` makes several.
+fn ends_in_nothing(bytes: &[u8; 8]) -> bool
+    ensures { (result ≡ true) ↔ (drop 1 bytes.now ≡ letters_of Nothing) }
+{
+    u64::from_le_bytes(*bytes) >> 8 == NOTHING
+}
 
 // What is left of a text: it does not begin with a blank.
 #[derive(Clone, Copy)]
@@ -15,7 +43,8 @@ pub struct Rest<'a> {
 
 impl<'a> Rest<'a> {
     ghost use Rattle.std.specs.Prelude.{◌≡◌};
-    ghost use Rattle.text.specs.Spelling.{last_of};
+    ghost use Rattle.text.specs.Parts.{Nothing};
+    ghost use Rattle.text.specs.Spelling.{letters_of, last_of};
     ghost use Rattle.text.specs.inner.Lexer.{is_letter};
     ghost use Rattle.reader.specs.inner.Ending.{Begun, Stripped, Words, Numbers, Signals, Skipped, Three};
 
@@ -35,7 +64,7 @@ impl<'a> Rest<'a> {
     pub fn touches(self) -> bool
         ensures { result ≡ is_letter (last_of self.entry.bytes.now) }
     {
-        matches!(self.bytes, [.., b'0'..=b':' | b'S' | b'a'..=b'z'])
+        matches!(self.bytes, [.., last] if is_letter(*last))
     }
 
     // What stands before the bytes that it ends in.
@@ -46,15 +75,38 @@ impl<'a> Rest<'a> {
         Some(Rest { bytes: before })
     }
 
-    // What stands before the word that it ends in.
+    // What stands before the word that it ends in. The word is compared in two parts: four letters are one comparison of a number, where
+    // five to seven are several.
+    #[inline(always)]
     pub fn word(self, letters: &[u8]) -> Option<Rest<'a>>
         ensures { Words self.entry.bytes.now letters.now result }
     {
-        let before = self.before(letters)?;
+        let (first, second) = letters.split_at(letters.len().min(4));
+        let behind = self.before(second)?;
+        let before = behind.before(first)?;
         if before.touches() {
             return None;
         }
         Some(before)
+    }
+
+    // What stands before the word `nothing`, of which long chains are made. With the byte before it, it is eight bytes; a shorter text
+    // has none before it.
+    pub fn nothing(self) -> Option<Rest<'a>>
+        ensures { Words self.entry.bytes.now (letters_of Nothing) result }
+    {
+        let Some(last) = self.bytes.last_chunk::<8>() else {
+            return self.word(b"nothing");
+        };
+        if !ends_in_nothing(last) {
+            return None;
+        }
+        if is_letter(last[0]) {
+            return None;
+        }
+        Some(Rest {
+            bytes: &self.bytes[..self.bytes.len() - 7],
+        })
     }
 
     // The number of three digits or more that it ends in.
@@ -102,14 +154,21 @@ impl<'a> Rest<'a> {
         Some((value, before))
     }
 
-    // What stands before the blanks that it ends in.
+    // What stands before the blanks that it ends in. The loop runs over an index: since the text does not begin with a blank, nothing
+    // asks for the beginning, as a slice pattern would.
     pub fn skip(self) -> Rest<'a>
         ensures { Skipped self.entry.bytes.now result.bytes.now }
     {
-        let mut before = self.bytes;
-        while let [rest @ .., b' ' | b'\n'] = before {
-            before = rest;
+        let text = self.bytes;
+        if text.is_empty() {
+            return self;
         }
-        Rest { bytes: before }
+        let mut at = text.len() - 1;
+        while is_blank(text[at]) {
+            at -= 1;
+        }
+        Rest {
+            bytes: &text[..=at],
+        }
     }
 }

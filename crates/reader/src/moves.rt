@@ -116,7 +116,7 @@ impl Reader {
             opened,
             after: self.after(),
             beside: self.beside,
-            behind: self.count.unwrap_or(0),
+            behind: self.count.unwrap_or(0) as u16,
         };
         Some(Reader { left, ..self }.due(false))
     }
@@ -204,7 +204,7 @@ impl Reader {
         let frame = self.top(room)?;
         let branches = match frame.opened {
             Opened::Bracket => return None,
-            Opened::Ending => insert_nothing(&mut room.nodes, self.count, frame.behind),
+            Opened::Ending => insert_nothing(&mut room.nodes, self.count, frame.behind as usize),
             Opened::Otherwise => self.count,
         };
         let present = table::node_of(table::PRESENT, signal);

@@ -122,7 +122,7 @@ impl Reader {
         match text.bytes {
             [.., b'0'..=b'9'] => self.take_digits(text, room),
             [.., b'g'] => {
-                let before = text.word(b"nothing")?;
+                let before = text.nothing()?;
                 let nothing = table::node_of(table::NOTHING, 0);
                 Some((before, self.leaf(room, nothing)))
             }
