@@ -14,7 +14,7 @@ use lib.Dec.{eqb, ltb}
 use lib.ListN.{length, get_or, take, drop, set, length-append, length-drop, take-append-drop}
 use lib.Seq.{take-suc, drop_at, set_at, take-append-le, take-take, length-take-le, drop-set-lt, drop-set-add}
 use Rattle.sets.specs.Set.{has, only, ◌union◌}
-use Rattle.sets.proofs.Booleans.{by_cond, eqb_same, eqb_differ}
+use Rattle.sets.proofs.Booleans.{or_false, by_cond, eqb_same, eqb_differ}
 use Rattle.sets.proofs.Members.{has_union, has_empty, has_only, has_only_other, only_fits}
 use Rattle.esterel.specs.Statement.{Statement, nothing, exit, present, sequence, try, depth}
 use Rattle.esterel.specs.Trimming.{is_nothing, names, join_parts}
@@ -246,33 +246,38 @@ unfolding join_parts is_nothing
 join_none f t = refl
 
 module _ {x : ℕ} {work : List ℕ} {p q : Laid} where
-  pub joined_second : p.depth ≡ 0 → PartsJoined x work p q (record { from = p.from; depth = q.depth; named = q.named }) work
+  pub joined_second : p.depth ≡ 0 → PartsJoined x work p q (record { from = p.from; depth = q.depth; named = bit_or p.named q.named }) work
   unfolding part part_depth is_nothing names
   joined_second z =
       record {
         made = λ f s t before between to J w Q P.
             let n : s ≡ nothing = made_none s between q.from p work P z in
             let N : PartStands nothing between q.from p work = subst (λ (u : Statement). PartStands u between q.from p work) n P in
-            let r : Laid = record { from = p.from; depth = q.depth; named = q.named } in
+            let r : Laid = record { from = p.from; depth = q.depth; named = bit_or p.named q.named } in
             subst (λ (u : Statement). PartStands u before to r work) (sym (join_none f t) ∙ ap (λ (u : Statement). join_parts f u t) (sym n))
-            (record { puts = puts_both [] (part t) before between work to q.from p.from w Q.puts N.puts; depth_is = Q.depth_is; names_are = Q.names_are });
+            (record {
+              puts = puts_both [] (part t) before between work to q.from p.from w Q.puts N.puts;
+              depth_is = Q.depth_is;
+              names_are = λ S. names_two p.named q.named S nothing t (N.names_are S) (Q.names_are S);
+            });
         near = omega arith;
         shallow = omega arith;
       }
 
-  pub joined_first : q.depth ≡ 0 → PartsJoined x work p q p work
+  pub joined_first : q.depth ≡ 0 → PartsJoined x work p q (record { from = p.from; depth = p.depth; named = bit_or p.named q.named }) work
   unfolding part part_depth is_nothing names
   joined_first z =
       record {
         made = λ f s t before between to J w Q P.
             let n : t ≡ nothing = made_none t before to q between Q z in
             let N : PartStands nothing before to q between = subst (λ (u : Statement). PartStands u before to q between) n Q in
-            subst (λ (u : Statement). PartStands u before to p work)
+            let r : Laid = record { from = p.from; depth = p.depth; named = bit_or p.named q.named } in
+            subst (λ (u : Statement). PartStands u before to r work)
             (sym (join_first f s t (ap is_nothing n)))
             (record {
               puts = subst (λ (l : List ℕ). Puts l before to p.from work) (append-nil (part s)) (puts_both (part s) [] before between work to q.from p.from w N.puts P.puts);
               depth_is = P.depth_is;
-              names_are = P.names_are;
+              names_are = λ S. names_two p.named q.named S s nothing (P.names_are S) (N.names_are S) ∙ or_false (names S s);
             });
         near = omega arith;
         shallow = omega arith;

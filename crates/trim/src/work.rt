@@ -1,7 +1,7 @@
 // The steps of trimming in the work area, which is filled from its end: a part is written right before what stands there,
 // the parent after its children, so nothing is ever moved.
 ghost use Rattle.std.specs.Prelude.{◌≡◌, ℕ, cond, ◌≤◌, eqb};
-ghost use Rattle.sets.specs.Set.{has};
+ghost use Rattle.sets.specs.Set.{has, ◌union◌};
 ghost use Rattle.trim.specs.inner.Parts.{laid_at, Shallow, PutAt, LeafPut, NothingFilled, Wrapped, PartsJoined, ElseClosed, PresentClosed};
 
 use esterel::Level;
@@ -108,22 +108,25 @@ impl Work {
         }
     }
 
-    // Two parts, one before the other; one that is nothing is dropped.
+    // Two parts, one before the other; one that is nothing is dropped. What either names is named by both, also where one is dropped, so
+    // that what is made of a node of no kind is told at the root.
     pub fn join(&mut self, p: Part, q: Part, node: u16) -> Part
         requires room { 1 ≤ self.old.from }
         requires shallow { Shallow p × Shallow q }
-        ensures { (mid : ℕ) → PartsJoined node self.old.nodes (laid_at self.old.from p) (laid_at mid q) (laid_at self.new.from result) self.new.nodes }
+        ensures joined { (mid : ℕ) → PartsJoined node self.old.nodes (laid_at self.old.from p) (laid_at mid q) (laid_at self.new.from result) self.new.nodes }
+        ensures named { result.named ≡ p.named union q.named }
     {
+        let named = p.named | q.named;
         if p.is_nothing() {
-            return q;
+            return Part { named, ..q };
         }
         if q.is_nothing() {
-            return p;
+            return Part { named, ..p };
         }
         self.put(node);
         Part {
             depth: p.depth.max(q.depth) + 1,
-            named: p.named | q.named,
+            named,
         }
     }
 

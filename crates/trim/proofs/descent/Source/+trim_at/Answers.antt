@@ -149,12 +149,12 @@ returns-in-6 t c =
 pub returns-in-7 : goal.returns-in-7
 returns-in-7 t c =
     let n : Node c.args.left c.args.self.nodes.now c.args.at 7 = node_there c.if-left-eq0.false c.requires.all c.if-at-ge-MOST_NODES.false c.kind_of.ensures c.in-7.is in
-    at_sequence c.requires n c.node_of-in-7.ensures c.second-second.ensures c.ends.ensures c.started_if-inner.ensures c.trim_at-q-in-7.ensures c.trim_at-p-in-7.ensures (c.join.ensures c.trim_at-q-in-7.new.room.work.from)
+    at_sequence c.requires n c.node_of-in-7.ensures c.second-second.ensures c.ends.ensures c.started_if-inner.ensures c.trim_at-q-in-7.ensures c.trim_at-p-in-7.ensures (c.join.ensures.joined c.trim_at-q-in-7.new.room.work.from)
 
 pub returns-in-8 : goal.returns-in-8
 returns-in-8 t c =
     let n : Node c.args.left c.args.self.nodes.now c.args.at 8 = node_there c.if-left-eq0.false c.requires.all c.if-at-ge-MOST_NODES.false c.kind_of.ensures c.in-8.is in
-    at_parallel c.requires n c.node_of-in-8.ensures c.second-second.ensures c.trim_at-q-in-8.ensures c.trim_at-p-in-8.ensures (c.join-in-8.ensures c.trim_at-q-in-8.new.room.work.from)
+    at_parallel c.requires n c.node_of-in-8.ensures c.second-second.ensures c.trim_at-q-in-8.ensures c.trim_at-p-in-8.ensures (c.join-in-8.ensures.joined c.trim_at-q-in-8.new.room.work.from)
 
 pub returns-in-9 : goal.returns-in-9
 returns-in-9 t c =

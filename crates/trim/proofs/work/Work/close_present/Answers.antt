@@ -12,7 +12,7 @@ use Rattle.trim.proofs.work.Work.close_present.Goals as goal
 
 pub returns-then-not-started : goal.returns-then-not-started
 returns-then-not-started c mid =
-    present_joined c.if-not-started.true (rw (c.node_of.ensures ∙ sequence_node) at (c.join.ensures mid))
+    present_joined c.if-not-started.true (rw (c.node_of.ensures ∙ sequence_node) at (c.join.ensures.joined mid))
 
 pub returns : goal.returns
 returns c mid =
