@@ -1,6 +1,6 @@
 // A table made ready, once, for listing any of its states under any assumed set: its nodes decoded and checked, and what the lister
 // asks of each noted. And the choice of the signals that may be unknown: made with it for lists that begin with none unknown, and anew
-// for each set of those that are.
+// for a set of those that are where there is no room for both.
 ghost use Rattle.std.specs.Prelude.{◌≡◌, true, ◌<◌, IfOk};
 ghost use Rattle.table.specs.Reading.{table_of, operand_of};
 ghost use Rattle.table.specs.inner.Places.{Known};

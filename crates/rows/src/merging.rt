@@ -21,8 +21,8 @@ fn counted(area: &[Row], n: usize) -> Result<u8, Unlisted>
     }
 }
 
-// The rows of one slice over those of another, which has as many. A loop, since the library's `copy_from_slice` asks C for `memmove`,
-// and nothing else here does.
+// The rows of one slice over those of another, which has as many. A loop: the library's `copy_from_slice` became calls of C's `memmove`
+// here, for which nothing else asks.
 fn copy_rows(to: &mut [Row], from: &[Row])
     requires { length to.old ≡ length from.now }
     ensures { to.new ≡ from.now }

@@ -108,8 +108,8 @@ impl Work {
         }
     }
 
-    // Two parts, one before the other; one that is nothing is dropped. What either names is named by both, also where one is dropped, so
-    // that what is made of a node of no kind is told at the root.
+    // Two parts, one before the other; one that is nothing is dropped. What either names is named by what they make together, also where
+    // one is dropped, so that a node of no kind is told at the root.
     pub fn join(&mut self, p: Part, q: Part, node: u16) -> Part
         requires room { 1 ≤ self.old.from }
         requires shallow { Shallow p × Shallow q }
